@@ -1,0 +1,12 @@
+pub mod Tests
+pub mod Count
+pub mod Scan
+pub mod Refusals
+pub mod Heights
+pub mod Numbers
+pub mod Moves
+pub mod Outcomes
+pub mod Back
+pub mod Between
+pub mod Laws
+pub mod Examples

@@ -1,0 +1,4 @@
+pub mod Stacks
+pub mod Functions
+pub mod Answers
+pub mod Steps

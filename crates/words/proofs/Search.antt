@@ -1,0 +1,70 @@
+-- Laws of the walks over a list of words: the count of all set bits, and the first word that is not 0. Assumes nothing.
+use mathlib.Core.Path.{_≡_, sym, ap, ap₂, _∙_}
+use mathlib.Core.Bool.{Bool, cond}
+use mathlib.Core.List.{List, _∷_}
+use Prim.Native.Nat.{ℕ, suc, _+_, _-_, _≤_, _<_, min}
+use native.Mathlib.Decide.{decLt}
+use native.Mathlib.Numerals.{add-one}
+use native.Mathlib.Omega.{arith}
+use borrow.Author.Tests.{eq-eqb, ne-eqb, le-leb, lt-leb}
+use lib.ListN.{length, take, drop, getD, length-drop, drop-of-length-le}
+use lib.Seq.{drop-cons, take-all}
+use Rattle.words.specs.declared.Found.the-variants.{Nowhere, At}
+use Rattle.words.specs.Words.{lowest, onesOf, onesIn, countOf, firstFrom, firstBetween}
+
+-- ---- the count
+pub count-few : (ws : List ℕ) → length ws ≤ 524288 → countOf ws ≡ onesIn ws
+unfolding countOf
+count-few ws h = ap (λ (t : Bool). cond t (onesIn ws) 0) (le-leb (length ws) 524288 h)
+
+pub count-many : (ws : List ℕ) → 524288 < length ws → countOf ws ≡ 0
+unfolding countOf
+count-many ws h = ap (λ (t : Bool). cond t (onesIn ws) 0) (lt-leb (length ws) 524288 h)
+
+pub onesIn-next : (ws : List ℕ) (i : ℕ) → i < length ws → onesIn (drop i ws) ≡ onesOf (getD ws i 0) + onesIn (drop (i + 1) ws)
+unfolding onesIn
+onesIn-next ws i h = rw (add-one, drop-cons ws i 0)
+
+pub onesIn-end : (ws : List ℕ) (i : ℕ) → length ws ≤ i → onesIn (drop i ws) ≡ 0
+unfolding onesIn
+onesIn-end ws i h = ap onesIn (drop-of-length-le ws h)
+
+-- ---- the first word that is not 0
+part-cons : (ws : List ℕ) (i to : ℕ) → i < to → i < length ws
+    → take (to - i) (drop i ws) ≡ getD ws i 0 ∷ take (to - (i + 1)) (drop (i + 1) ws)
+part-cons ws i to h l =
+    let e : to - i ≡ suc (to - (i + 1)) = omega arith in
+    ap₂ take e (drop-cons ws i 0 l ∙ ap (λ (n : ℕ). getD ws i 0 ∷ drop n ws) (sym (add-one i)))
+
+pub first-here : (ws : List ℕ) (i to : ℕ) → i < to → i < length ws → (getD ws i 0 ≡ 0 → ⊥)
+    → firstBetween i to ws ≡ At i (lowest (getD ws i 0))
+unfolding firstBetween firstFrom
+first-here ws i to h l ne =
+    ap (λ (xs : List ℕ). firstFrom i xs) (part-cons ws i to h l)
+    ∙ ap (λ (t : Bool). cond t (firstFrom (suc i) (take (to - (i + 1)) (drop (i + 1) ws))) (At i (lowest (getD ws i 0)))) (ne-eqb (getD ws i 0) 0 ne)
+
+pub first-next : (ws : List ℕ) (i to : ℕ) → i < to → i < length ws → getD ws i 0 ≡ 0 → firstBetween i to ws ≡ firstBetween (i + 1) to ws
+unfolding firstBetween firstFrom
+first-next ws i to h l z =
+    ap (λ (xs : List ℕ). firstFrom i xs) (part-cons ws i to h l)
+    ∙ ap (λ (t : Bool). cond t (firstFrom (suc i) (take (to - (i + 1)) (drop (i + 1) ws))) (At i (lowest (getD ws i 0)))) (eq-eqb (getD ws i 0) 0 z)
+    ∙ ap (λ (n : ℕ). firstFrom n (take (to - (i + 1)) (drop (i + 1) ws))) (sym (add-one i))
+
+pub first-end : (ws : List ℕ) (i to : ℕ) → to ≤ i → firstBetween i to ws ≡ Nowhere
+unfolding firstBetween firstFrom
+first-end ws i to h =
+    let e : to - i ≡ 0 = omega arith in
+    ap (λ (n : ℕ). firstFrom i (take n (drop i ws))) e
+
+-- a search past the list's end is one up to its end
+pub first-cut : (ws : List ℕ) (i to : ℕ) → firstBetween i (min to (length ws)) ws ≡ firstBetween i to ws
+unfolding firstBetween
+first-cut ws i to = go (decLt to (length ws))
+  where
+    go : Dec (to < length ws) → firstBetween i (min to (length ws)) ws ≡ firstBetween i to ws
+    go (yes h) = let e : min to (length ws) ≡ to = omega arith in ap (λ (n : ℕ). firstBetween i n ws) e
+    go (no h) =
+        let rest = drop i ws in
+        let short : take (min to (length ws) - i) rest ≡ rest = take-all (min to (length ws) - i) rest (omega (arith, h, length-drop i ws)) in
+        let long : take (to - i) rest ≡ rest = take-all (to - i) rest (omega (arith, h, length-drop i ws)) in
+        ap (λ (xs : List ℕ). firstFrom i xs) (short ∙ sym long)

@@ -1,0 +1,95 @@
+// Waiting words: bit v of a word is set where a message about the word's row waits for neighbour v. Every function is total.
+ghost use mathlib.Core.Path.{_≡_};
+ghost use Prim.Native.Nat.{min};
+ghost use Rattle.words.specs.Words.{has, without, withAll, withOne, lowest, onesOf, countOf, firstBetween};
+
+// Where a search ended: the place of a word in the slice, and the number of its lowest bit.
+pub enum Found {
+    Nowhere,
+    At(usize, usize),
+}
+
+// Whether a message waits for neighbour v; no bit stands at 32 or above.
+pub fn has(word: u32, v: usize) -> bool
+    ensures { λ r. ⌜ r ≡ has word v ⌝ }
+{
+    if v < 32 { (word >> v) % 2 == 1 } else { false }
+}
+
+// The word with bit v cleared.
+pub fn without(word: u32, v: usize) -> u32
+    ensures { λ r. ⌜ r ≡ without word v ⌝ }
+{
+    if v < 32 {
+        word - (word & (1u32 << v))
+    } else {
+        word
+    }
+}
+
+// The word with the bits of `more` set too.
+pub fn with_all(word: u32, more: u32) -> u32
+    ensures { λ r. ⌜ r ≡ withAll word more ⌝ }
+{
+    word | more
+}
+
+// The word with bit v set, where the word has a bit v.
+pub fn with_one(word: u32, v: usize) -> u32
+    ensures { λ r. ⌜ r ≡ withOne word v ⌝ }
+{
+    if v < 32 { word | (1u32 << v) } else { word }
+}
+
+// The lowest set bit; 32 where none is.
+pub fn lowest(word: u32) -> usize
+    ensures { λ r. ⌜ r ≡ lowest word ⌝ }
+{
+    u32::trailing_zeros(word) as usize
+}
+
+// How many bits are set.
+pub fn ones(word: u32) -> u32
+    ensures { λ r. ⌜ r ≡ onesOf word ⌝ }
+{
+    u32::count_ones(word)
+}
+
+// How many bits of all the words are set; 0 where there are more words than 2^19, so that no sum can wrap.
+pub fn ones_in(words: &[u32]) -> u64
+    ensures { λ r. ⌜ r ≡ countOf (now (words .entry)) ⌝ }
+{
+    if 524288 < words.len() {
+        return 0;
+    }
+    let mut sum: u64 = 0;
+    let mut i = 0;
+    while i < words.len() {
+        sum += ones(words[i]) as u64;
+        i += 1;
+    }
+    sum
+}
+
+// The smaller of two numbers.
+fn smaller(a: usize, b: usize) -> usize
+    ensures { λ r. ⌜ r ≡ min a b ⌝ }
+{
+    if a < b { a } else { b }
+}
+
+// The first word that is not 0 at the places from .. to - 1 that the slice has, and its lowest bit.
+pub fn first_in(words: &[u32], from: usize, to: usize) -> Found
+    ensures { λ r. ⌜ r ≡ firstBetween from to (now (words .entry)) ⌝ }
+{
+    let end = smaller(to, words.len());
+    let mut i = from;
+    while i < end {
+        let word = words[i];
+        if word != 0 {
+            return Found::At(i, lowest(word));
+        }
+        i += 1;
+    }
+    Found::Nowhere
+}
