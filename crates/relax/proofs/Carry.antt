@@ -25,13 +25,13 @@ module _ (g : Graph) where
       go : Hop g s v
           → ((t : State) → Later g s t → t .cost (s .next v) ≤ c - weight v (s .next v) → Carried g t (s .next v) (c - weight v (s .next v)))
           → Carried g s v c
-      go k rest = onward {s = s} {v = v} {c = c} (k .hop) (omega (arith, k .pays)) (λ t f. rest t f (omega (arith, k .pays, later-falls g f (s .next v))))
+      go k rest = onward {s = s} {v = v} {c = c} (k .away) h (k .hop) (omega (arith, k .pays)) (λ t f. rest t f (omega (arith, k .pays, later-falls g f (s .next v))))
 
   -- one hop more: the home case is excluded, and the rest is what `onward` promises of every later state
   left-on : {t z : State} {u n k c d : ℕ} → d ≡ c - k → Carried g t u d → home u ≡ false → Later g t z → n ≤ k → k ≤ c
       → Left g z (t .next u) (suc n) (k + weight u (t .next u)) c
   left-on e (arrived h) away f a b = absurd (true≢false (sym h ∙ away))
-  left-on {t} {z} {u} {n} {k} {c} {d} e (onward p q rest) away f a b =
+  left-on {t} {z} {u} {n} {k} {c} {d} e (onward a₀ b₀ p q rest) away f a b =
       let less : d - weight u (t .next u) ≡ c - (k + weight u (t .next u)) = omega arith in
       record { hops = omega arith; spent = omega arith; on = rw less at (rest z f) }
 

@@ -19,7 +19,7 @@ cleared x U v Q = eqb v x && eqb Q U
 
 -- a weighted graph, whose vertices belong to gateways
 pub record Graph : Type 0 where
-  -- every vertex that a hop leaves is below this
+  -- every vertex that a hop leaves, and every home, is below this
   pub size : ℕ
   -- no hop weighs more than this
   pub dearest : ℕ
@@ -93,7 +93,7 @@ module _ (g : Graph) where
     pub take-next : (u : ℕ) → Takes s x U u → t .next u ≡ x
     -- and its gateway tells every neighbour
     pub take-waiting : (u Q : ℕ) → Takes s x U u → neighbour (node u) Q ≡ true → t .waiting u Q ≡ true
-    -- and nobody else
+    -- and its other messages stay as they were
     pub take-rest : (u Q : ℕ) → Takes s x U u → neighbour (node u) Q ≡ false → t .waiting u Q ≡ s .waiting u Q
     -- every other vertex keeps its cost
     pub keep-cost : (u : ℕ) → ¬ Takes s x U u → t .cost u ≡ s .cost u

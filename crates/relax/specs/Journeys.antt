@@ -20,7 +20,7 @@ abbrev pub bit : Bool → ℕ
 bit true = 1
 bit false = 0
 
--- how many messages wait, about the first size vertices and for the first N gateways
+-- how many messages wait, about the first size vertices and for the first N gateways (the theorems ask that no gateway sends past those)
 unfoldable pub messages : ℕ → ℕ → State → ℕ
 messages size N s = sum size (λ v. sum N (λ U. bit (s .waiting v U)))
 
@@ -46,7 +46,7 @@ module _ (g : Graph) where
     pub home-zero : (v : ℕ) → home v ≡ true → s .cost v ≡ 0
     pub known : (v : ℕ) → s .cost v ≢ noRow → ((home v ≡ true) × (s .cost v ≡ 0)) ⊎ Hop s v
 
-  -- a message about v that waits for U: v has a cost, and v's gateway sends to U
+  -- what a message about v that waits for U tells: v has a cost, and v's gateway sends to U
   pub record Waits (s : State) (v U : ℕ) : Type 0 where
     pub priced : s .cost v ≢ noRow
     pub sent : neighbour (node v) U ≡ true
@@ -56,13 +56,15 @@ module _ (g : Graph) where
     here : {v : ℕ} → home v ≡ true → Route v 0
     via : {u v k : ℕ} → 0 < weight u v → Route v k → Route u (k + weight u v)
 
-  -- the packet at v, with c to spend, is home, or has a hop that c pays for, after which it is carried on from ANY later state of the tables
+  -- The packet at v, with c to spend, is home; or its row is known, at a cost that is not 0 and that c pays, and names a hop that c pays for,
+  -- after which the packet is carried on from ANY later state of the tables.
   pub data Carried : State → ℕ → ℕ → Type 0 where
     arrived : {s : State} {v c : ℕ} → home v ≡ true → Carried s v c
-    onward : {s : State} {v c : ℕ} → 0 < weight v (s .next v) → weight v (s .next v) ≤ c
+    onward : {s : State} {v c : ℕ} → 0 < s .cost v → s .cost v ≤ c → 0 < weight v (s .next v) → weight v (s .next v) ≤ c
         → ((t : State) → Later g s t → Carried t (s .next v) (c - weight v (s .next v))) → Carried s v c
 
-  -- Trip s v t u n k: n hops, for k together, take a packet from v in the state s to u in the state t, each to where the tables then say
+  -- Trip s v t u n k: n hops, for k together, take a packet from v in the state s to u in the state t, each to where the tables then say.
+  -- (It only asks where a packet went; that each hop was there is what `Left` tells of it.)
   pub data Trip (s : State) (v : ℕ) : State → ℕ → ℕ → ℕ → Type 0 where
     begin : Trip s v s v 0 0
     hop : {t z : State} {u n k : ℕ} → Trip s v t u n k → home u ≡ false → Later g t z

@@ -61,7 +61,8 @@ appliedOf p h f n = cond (okSize p h && (okNumber p h n && okFunction p f)) (ans
 abbrev pub inverseOf : ℕ → ℕ → Answer
 inverseOf p f = cond (leb 1 p && (leb p 8 && okFunction p f)) (Answer.Value (inverse f)) (Answer.Refused 4)
 
--- moved: the same as applied on numbers alone, for whoever has worked out how many stacks there are
+-- moved: arithmetic on numbers alone, for whoever has worked out how many stacks there are: where most is S it answers what applied answers
+-- (the law moved-applied). 78,536,544,840 is the largest S.
 unfoldable pub okMove : ℕ → ℕ → ℕ → ℕ → Bool
 okMove p most f n = leb 1 p && (leb p 8 && (leb most 78536544840 && (leb 1 n && (leb n most && okFunction p f))))
 

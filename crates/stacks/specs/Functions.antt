@@ -41,7 +41,7 @@ unwrap a b [] = cannot
 unwrap a b (t ∷ []) = cannot
 unwrap a b (t ∷ u ∷ r) = cond (eqb t b && eqb u a) (becomes (u ∷ r)) cannot
 
--- kind 0 converts, 1 wraps, 2 unwraps
+-- kind 0 converts, 1 wraps, 2 unwraps (no function has a higher kind: okFunction)
 abbrev pub move : ℕ → ℕ → ℕ → ℕ → List ℕ → Outcome
 move zero h a b s = convert a b s
 move (suc zero) h a b s = wrap h a b s

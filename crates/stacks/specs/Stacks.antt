@@ -32,7 +32,7 @@ abbrev pub count : ℕ → ℕ → ℕ
 count p zero = 0
 count p (suc h) = count p h + p ^ suc h
 
--- "The numbers are exactly 1 to S."
+-- a number from 1 to S. ("The numbers are exactly 1 to S": proofs/Laws.antt has the four laws of that.)
 unfoldable pub okNumber : ℕ → ℕ → ℕ → Bool
 okNumber p h n = leb 1 n && leb n (count p h)
 

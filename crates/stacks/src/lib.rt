@@ -14,7 +14,7 @@ pub enum Answer {
     Refused(u32),
 }
 
-// What a function makes of the stack of a number: the number of the new stack.
+// What a function makes of the stack of a number: the number of the new stack, or that it is not applicable there, or the refusal's number.
 pub enum After {
     Number(usize),
     NotApplicable,
@@ -68,6 +68,7 @@ fn total(p: usize, h: usize) -> usize
     n
 }
 
+// How many stacks of height 1 to h there are: S.
 pub fn stack_count(p: usize, h: usize) -> Answer
     ensures { λ r. ⌜ r ≡ countOf p h ⌝ }
 {
@@ -219,7 +220,7 @@ fn moved_by(p: usize, most: usize, kind: usize, a: usize, b: usize, number: usiz
     After::NotApplicable
 }
 
-// As applied, for a caller that has worked out how many stacks there are: no loop.
+// As applied, where most is S, for a caller that has worked it out: no loop.
 pub fn moved(p: usize, most: usize, f: usize, number: usize) -> After
     ensures { λ r. ⌜ r ≡ movedOf p most f number ⌝ }
 {
