@@ -34,3 +34,15 @@ howMany-more zero t u j b e same = absurd (omega arith)
 howMany-more (suc k) t u j b e same = by-cases (ℕ-discrete j k)
     (λ q. omega (arith, howMany-same k t u (λ i low. same i (omega arith) (λ (z : i ≡ j). omega arith)), ap (λ (x : ℕ). one (u x)) q, ap one (ap t (sym q) ∙ e)))
     (λ n. omega (arith, howMany-more k t u j (omega arith) e (λ i low m. same i (omega arith) m), ap one (same k (omega arith) (λ (z : k ≡ j). omega (arith, n)))))
+
+-- where none is counted, none passes
+pub howMany-zero : (k : ℕ) (t : ℕ → Bool) → howMany k t ≡ 0 → (i : ℕ) → i < k → t i ≡ false
+unfolding howMany
+howMany-zero zero t e i b = absurd (omega arith)
+howMany-zero (suc k) t e i b = by-cases (ℕ-discrete i k)
+    (λ q. ap t q ∙ none (t k) (omega arith))
+    (λ n. howMany-zero k t (omega arith) i (omega arith))
+  where
+    none : (x : Bool) → one x ≡ 0 → x ≡ false
+    none true z = absurd (omega arith)
+    none false z = refl

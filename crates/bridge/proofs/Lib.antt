@@ -1,0 +1,7 @@
+pub mod Hops
+pub mod Weights
+pub mod States
+pub mod Beginning
+pub mod Offers
+pub mod Steps
+pub mod Theorems

@@ -1,0 +1,97 @@
+-- The table is the theory: for each destination, a network is a graph of crate relax and a table is a state over that graph.
+use Prim.Native.Nat.{ℕ, _+_, _-_, _*_, _/_, _%_, _<_}
+use mathlib.Core.Path.{_≡_}
+use mathlib.Core.Bool.{Bool, true, cond, _&&_}
+use lib.ListN.{length, getD}
+use lib.Dec.{ltb}
+use Rattle.relax.specs.Graph.{Graph, State, Lawful, Same, Fresh, Deliver}
+use Rattle.stacks.specs.Answers.{appliedOf, numberAfter}
+use Rattle.stacks.specs.declared.After.{After}
+use Rattle.words.specs.Words.{has}
+use Rattle.network.specs.Network.{Network, stacks, present, can, weight}
+use Rattle.hear.specs.Hearing.{Message, leader}
+use Rattle.table.specs.Table.{Table, Sized, vertex, nodeOf, numberOf, noRow, rowsEach, rowsAll, place, home, fresh, gateway, delivered}
+use Rattle.table.specs.Answers.{stepRefusal}
+
+-- the links and the words of a network are 16-bit numbers
+pub record Numbers16 (net : Network) : Type 0 where
+  pub links : (i : ℕ) → getD (net .links) i 0 < 65536
+  pub functions : (i : ℕ) → getD (net .functions) i 0 < 65536
+
+-- a message about a stack number, of which only that number matters
+abbrev pub about : ℕ → Message
+about N = record { sender = 0; destination = 0; number = N; cost = 0; link = 0 }
+
+module _ (net : Network) where
+  -- ---- the graph
+  -- the function that leads from u to v; 192 where none does
+  unfoldable pub functionOf : ℕ → ℕ → ℕ
+  functionOf u v = leader (gateway net (nodeOf net u)) (about (numberOf net v)) (numberOf net u)
+
+  -- there is a hop from u to v: a link, and a function of u's node that makes v's stack of u's
+  unfoldable pub hops : ℕ → ℕ → Bool
+  hops u v = ltb u (rowsEach net) && (ltb v (rowsEach net) && (present net (nodeOf net u) (nodeOf net v) && ltb (functionOf u v) 192))
+
+  -- "Using function f at U over the link to V costs link(U,V) + price(U,f)"
+  unfoldable pub weightOf : ℕ → ℕ → ℕ
+  weightOf u v = cond (hops u v) (weight net (nodeOf net u) (functionOf u v) (nodeOf net v)) 0
+
+  unfoldable pub homeOf : ℕ → ℕ → Bool
+  homeOf D v = ltb v (rowsEach net) && home net (nodeOf net v) D (numberOf net v)
+
+  abbrev pub graphOf : ℕ → Graph
+  graphOf D = record {
+    size = rowsEach net;
+    dearest = 131069;
+    weight = weightOf;
+    node = nodeOf net;
+    neighbour = present net;
+    home = homeOf D;
+  }
+
+  -- ---- the state
+  -- where the row of a vertex for the destination D stands
+  abbrev pub rowOf : ℕ → ℕ → ℕ
+  rowOf D v = place net (nodeOf net v) D (numberOf net v)
+
+  unfoldable pub costOf : ℕ → Table → ℕ → ℕ
+  costOf D t v = cond (ltb v (rowsEach net)) (getD (t .cost) (rowOf D v) 0) noRow
+
+  unfoldable pub waitingOf : ℕ → Table → ℕ → ℕ → Bool
+  waitingOf D t v U = ltb v (rowsEach net) && has (getD (t .waiting) (rowOf D v) 0) U
+
+  -- the vertex that a way names at a stack number: the next node, with what the function makes of the stack
+  unfoldable pub leadsTo : ℕ → ℕ → ℕ
+  leadsTo way N = vertex net (way / 256) (numberAfter (appliedOf (net .p) (net .h) (way % 256) N))
+
+  unfoldable pub nextOf : ℕ → Table → ℕ → ℕ
+  nextOf D t v = cond (ltb v (rowsEach net)) (leadsTo (getD (t .way) (rowOf D v) 0) (numberOf net v)) 0
+
+  abbrev pub stateOf : ℕ → Table → State
+  stateOf D t = record { cost = costOf D t; next = nextOf D t; waiting = waitingOf D t }
+
+  -- the hop from u to v is by the function f
+  pub record HopBy (u v f : ℕ) : Type 0 where
+    pub has-it : can net (nodeOf net u) f ≡ true
+    pub linked : present net (nodeOf net u) (nodeOf net v) ≡ true
+    pub makes : appliedOf (net .p) (net .h) f (numberOf net u) ≡ After.Number (numberOf net v)
+    pub weighs : weightOf u v ≡ weight net (nodeOf net u) f (nodeOf net v)
+
+  -- ---- what is shown of them where the network is not refused, its numbers have 16 bits and D is one of its nodes (proofs/Theorems.antt)
+  pub record Bridged (D : ℕ) : Type 0 where
+    -- the graph meets what the theorems of relax ask for
+    pub lawful : Lawful (graphOf D)
+    pub neighbours-few : (Q U : ℕ) → present net Q U ≡ true → U < net .n
+    -- a fresh table is a first state
+    pub fresh-sized : Sized net (fresh net)
+    pub fresh-is-fresh : Fresh (graphOf D) (stateOf D (fresh net))
+    -- a delivery about D is a delivery, and one about another destination changes nothing
+    pub delivery-sized : (t : Table) (Q U E N : ℕ) → Sized net t → stepRefusal net t Q U E N ≡ 0 → Sized net (delivered net t Q U E N)
+    pub delivery-is-a-step : (t : Table) (Q U N : ℕ) → Sized net t → stepRefusal net t Q U D N ≡ 0
+        → Deliver (graphOf D) (stateOf D t) (stateOf D (delivered net t Q U D N)) (vertex net Q N) U
+    pub delivery-elsewhere : (t : Table) (Q U E N : ℕ) → Sized net t → stepRefusal net t Q U E N ≡ 0 → (D ≡ E → ⊥)
+        → Same (stateOf D t) (stateOf D (delivered net t Q U E N))
+    -- the hops are what the specification calls hops
+    pub hop-function : (u v : ℕ) → 0 < weightOf u v → (f : ℕ) × HopBy u v f
+    pub function-hop : (U W f N M : ℕ) → can net U f ≡ true → present net U W ≡ true → appliedOf (net .p) (net .h) f N ≡ After.Number M
+        → weightOf (vertex net U N) (vertex net W M) ≡ weight net U f W

@@ -1,0 +1,181 @@
+-- `hear::unwraps` meets its contract. The invariant: the functions below 128 + 8 top + b have made their offers.
+use Prim.Native.Nat.{ℕ, _+_, _-_, _*_, _≤_}
+use mathlib.Core.List.{List}
+use native.Mathlib.Omega.{arith}
+use denote.Ref.{now}
+use Rattle.hear.specs.Answers.{gatewayOf, rowsOf}
+use Rattle.hear.specs.Steps.{Goes, messageIn}
+use Rattle.hear.proofs.Loops.{AsLong, as-long, still-lent, at-most-one, stays-long, tip-few, above-number, unwrap-turn, unwrap-start, unwrap-end}
+use Rattle.hear.proofs.unwraps.Statement.{statement}
+use Rattle.hear.proofs.unwraps.Tie as tie
+
+abbrev Inv-loop : tie.InvT-loop
+Inv-loop p most neighbours unwrap told costs₀ ways₀ waiting₀ top count₀ b₀ costs ways waiting count b =
+    (b ≤ p) × (count ≤ b) × AsLong (rowsOf costs₀ ways₀ waiting₀) (rowsOf costs ways waiting)
+    × ((v w : List (List ℕ)) → Goes (gatewayOf p most neighbours v w unwrap) (messageIn told) 128 (128 + 8 * top + b) count (rowsOf costs₀ ways₀ waiting₀) (rowsOf costs ways waiting))
+
+abbrev μ-loop : tie.MeasureT-loop
+μ-loop p most neighbours unwrap told costs₀ ways₀ waiting₀ top count₀ b₀ costs ways waiting count b =
+    p - b
+
+sub-top : tie.Need-sub-top Inv-loop μ-loop
+sub-top c = c .before .before .before .before .pre .0 .numbered
+
+rem-top : tie.Need-rem-top Inv-loop μ-loop
+rem-top c = c .before .before .before .before .pre .0 .some
+
+loop-holds : tie.Need-loop-holds Inv-loop μ-loop
+loop-holds c =
+    let start = c .before .before .before .before in
+    let a = start .args in
+    let m = messageIn (a .told) in
+    let q = rowsOf (now (a .costs)) (now (a .ways)) (now (a .waiting)) in (
+      omega arith,
+      omega arith,
+      as-long q,
+      λ v w. unwrap-start (a .p) (a .most) (a .neighbours) v w (a .unwrap) m (start .pre .0) q,
+    )
+
+entry-requires : tie.Need-entry-requires Inv-loop μ-loop
+entry-requires c κs =
+    let start = c .before .before .before .before .before .before in
+    let a = start .args in
+    omega (arith, start .pre .0 .few, tip-few (a .p) (a .most) (a .told .number) (start .pre .0))
+
+mul-f : tie.Need-mul-f Inv-loop μ-loop
+mul-f c =
+    let start = c .before .before .before .before .before .before .before in
+    let a = start .args in
+    omega (arith, tip-few (a .p) (a .most) (a .told .number) (start .pre .0))
+
+add-f : tie.Need-add-f Inv-loop μ-loop
+add-f c =
+    let start = c .before .before .before .before .before .before .before in
+    let a = start .args in
+    omega (arith, tip-few (a .p) (a .most) (a .told .number) (start .pre .0))
+
+add-f-2 : tie.Need-add-f-2 Inv-loop μ-loop
+add-f-2 c =
+    let start = c .before .before .before .before .before .before .before in
+    let a = start .args in
+    omega (arith, start .pre .0 .few, tip-few (a .p) (a .most) (a .told .number) (start .pre .0))
+
+mul-n : tie.Need-mul-n Inv-loop μ-loop
+mul-n c =
+    let start = c .before .before .before .before .before .before .before .before in
+    let a = start .args in
+    omega (arith, start .pre .0, above-number (a .p) (a .told .number) (start .pre .0 .few))
+
+add-n : tie.Need-add-n Inv-loop μ-loop
+add-n c =
+    let start = c .before .before .before .before .before .before .before .before in
+    let a = start .args in
+    omega (arith, start .pre .0, above-number (a .p) (a .told .number) (start .pre .0 .few))
+
+add-n-2 : tie.Need-add-n-2 Inv-loop μ-loop
+add-n-2 c =
+    let start = c .before .before .before .before .before .before .before .before in
+    let a = start .args in
+    omega (arith, start .pre .0, above-number (a .p) (a .told .number) (start .pre .0 .few))
+
+offered-requires : tie.Need-offered-requires Inv-loop μ-loop
+offered-requires c κs =
+    let head = c .before .before .before .before .before .before in
+    let start = head .before .before .before .before .before in
+    let a = start .args in
+    let m = messageIn (a .told) in
+    let q = rowsOf (now (a .costs)) (now (a .ways)) (now (a .waiting)) in
+    let l = head .loop in
+    let r = rowsOf (l .costs) (l .ways) (l .waiting) in (
+      still-lent (a .most) m q r (start .pre .1) (l .inv .2),
+      (omega (arith, tip-few (a .p) (a .most) (a .told .number) (start .pre .0), start .pre .0 .few), omega arith),
+    )
+
+add-count : tie.Need-add-count Inv-loop μ-loop
+add-count c =
+    let called = c .before .before .before .before .before .before in
+    let read = called .before .before .before .before .before in
+    let head = read .before .before in
+    let start = head .before .before .before .before .before in
+    let a = start .args in
+    let m = messageIn (a .told) in
+    let l = head .loop in
+    let r = rowsOf (l .costs) (l .ways) (l .waiting) in
+    omega (arith, at-most-one (a .most) (a .neighbours) m (read .entry .result) _ _ (called .offered .result) r _ (called .offered .ensures), start .pre .0 .few)
+
+add-b : tie.Need-add-b Inv-loop μ-loop
+add-b c = omega (arith, c .before .before .before .before .before .before .before .before .before .before .before .before .before .before .before .before .before .before .pre .0 .few)
+
+loop-less : tie.Need-loop-less Inv-loop μ-loop
+loop-less c = omega arith
+
+loop-again : tie.Need-loop-again Inv-loop μ-loop
+loop-again c =
+    let called = c .before .before .before .before .before .before in
+    let read = called .before .before .before .before .before in
+    let turn = read .before in
+    let head = turn .before in
+    let start = head .before .before .before .before .before in
+    let a = start .args in
+    let m = messageIn (a .told) in
+    let q = rowsOf (now (a .costs)) (now (a .ways)) (now (a .waiting)) in
+    let l = head .loop in
+    let r = rowsOf (l .costs) (l .ways) (l .waiting) in
+    let o = called .offered .ensures in
+    let h = still-lent (a .most) m q r (start .pre .1) (l .inv .2) in
+    let few = at-most-one (a .most) (a .neighbours) m (read .entry .result) _ _ (called .offered .result) r _ (called .offered .ensures) in (
+      omega arith,
+      omega arith,
+      stays-long (a .most) (a .neighbours) m (read .entry .result) _ _ (called .offered .result) r _ o q (l .inv .2),
+      λ v w. unwrap-turn (a .p) (a .most) (a .neighbours) v w (a .unwrap) m (start .pre .0) r _ h
+          (l .b) (read .entry .result) (l .count) (called .offered .result) q (omega (arith, turn .loop-test .taken, start .pre .0 .some)) (read .entry .ensures) o (l .inv .3 v w),
+    )
+
+same-length : tie.Need-same-length Inv-loop μ-loop
+same-length c = c .before .loop .inv .2 .costs
+
+same-length-2 : tie.Need-same-length-2 Inv-loop μ-loop
+same-length-2 c = c .before .loop .inv .2 .ways
+
+same-length-3 : tie.Need-same-length-3 Inv-loop μ-loop
+same-length-3 c = c .before .loop .inv .2 .waiting
+
+returns : tie.Need-returns Inv-loop μ-loop
+returns c =
+    let start = c .before .before .before .before .before .before in
+    let a = start .args in
+    let m = messageIn (a .told) in
+    let q = rowsOf (now (a .costs)) (now (a .ways)) (now (a .waiting)) in
+    let l = c .before .loop in
+    let r = rowsOf (l .costs) (l .ways) (l .waiting) in
+    let z = start .pre .0 in (
+      omega (arith, z .few),
+      λ v w. unwrap-end (a .p) (a .most) (a .neighbours) v w (a .unwrap) m z
+          (l .b) (l .count) q r (l .inv .0) (c .loop-test .left) (l .inv .3 v w),
+    )
+
+pub unwraps-spec : {M : Type 1} → statement M
+unwraps-spec =
+    tie.close
+    (tie.spec
+    Inv-loop
+    μ-loop
+    sub-top
+    rem-top
+    loop-holds
+    entry-requires
+    mul-f
+    add-f
+    add-f-2
+    mul-n
+    add-n
+    add-n-2
+    offered-requires
+    add-count
+    add-b
+    loop-less
+    loop-again
+    same-length
+    same-length-2
+    same-length-3
+    returns)

@@ -1,0 +1,54 @@
+-- What `hear` answers and what it leaves in the rows, for every input: its contract.
+use Prim.Native.Nat.{ℕ, zero, suc, _+_, _*_}
+use mathlib.Core.Path.{_≡_}
+use mathlib.Core.List.{List, []}
+use mathlib.Core.Bool.{Bool, cond, _&&_}
+use lib.ListN.{length, getD}
+use lib.Dec.{leb, ltb, eqb}
+use Rattle.stacks.specs.Functions.{kindOf, fromOf, toOf}
+use Rattle.hear.specs.Hearing.{Gateway, Message, Rows, heard, taken}
+use Rattle.hear.specs.declared.Heard.{Heard}
+
+-- one node's three grids as words: row a and column b of the grid of the function's kind
+abbrev pub gridOf : ℕ → List (List ℕ) → List (List ℕ) → List (List ℕ) → List (List ℕ)
+gridOf zero convert wrap unwrap = convert
+gridOf (suc zero) convert wrap unwrap = wrap
+gridOf (suc (suc k)) convert wrap unwrap = unwrap
+
+abbrev pub wordsOf : List (List ℕ) → List (List ℕ) → List (List ℕ) → ℕ → ℕ
+wordsOf convert wrap unwrap f = getD (getD (gridOf (kindOf f) convert wrap unwrap) (fromOf f) []) (toOf f) 0
+
+abbrev pub gatewayOf : ℕ → ℕ → ℕ → List (List ℕ) → List (List ℕ) → List (List ℕ) → Gateway
+gatewayOf p most neighbours convert wrap unwrap = record { p = p; most = most; neighbours = neighbours; words = wordsOf convert wrap unwrap }
+
+abbrev pub messageOf : ℕ → ℕ → ℕ → ℕ → ℕ → Message
+messageOf sender destination number cost link = record { sender = sender; destination = destination; number = number; cost = cost; link = link }
+
+abbrev pub rowsOf : List ℕ → List ℕ → List ℕ → Rows
+rowsOf costs ways waiting = record { costs = costs; ways = ways; waiting = waiting }
+
+-- sizes in range, a stack number in range, and rows enough for the destination
+unfoldable pub okHearing : Gateway → Message → Rows → Bool
+okHearing g m r =
+    leb 1 (g .p) && (leb (g .p) 8 && (leb (g .most) 16384
+    && (ltb (m .sender) 32 && (ltb (m .destination) 32 && (leb 1 (m .number) && (leb (m .number) (g .most)
+    && (leb ((m .destination + 1) * g .most) (length (r .costs))
+    && (eqb (length (r .ways)) (length (r .costs)) && eqb (length (r .waiting)) (length (r .costs))))))))))
+
+-- refusal 4 but where that holds, then 7 where the cost is above the ceiling
+unfoldable pub refusalOf : Gateway → Message → Rows → ℕ
+refusalOf g m r = cond (okHearing g m r) (cond (leb (m .cost) 2147303427) 0 7) 4
+
+abbrev pub answerOf : Gateway → Message → Rows → Heard
+answerOf g m r = cond (eqb (refusalOf g m r) 0) (Heard.Rows (taken g m r)) (Heard.Refused (refusalOf g m r))
+
+-- the rows afterwards; a refusal leaves them as they were
+unfoldable pub rowsAfter : Gateway → Message → Rows → Rows
+rowsAfter g m r = cond (eqb (refusalOf g m r) 0) (heard g m r) r
+
+-- what `hear` answers, and the three lists as it leaves them
+pub record Hears (g : Gateway) (m : Message) (r : Rows) (answer : Heard) (after : Rows) : Type 0 where
+  pub answers : answer ≡ answerOf g m r
+  pub costs : after .costs ≡ rowsAfter g m r .costs
+  pub ways : after .ways ≡ rowsAfter g m r .ways
+  pub waiting : after .waiting ≡ rowsAfter g m r .waiting

@@ -1,0 +1,7 @@
+pub mod Entries
+pub mod Links
+pub mod Bounds
+pub mod Rows
+pub mod Refusals
+pub mod Laws
+pub mod Examples

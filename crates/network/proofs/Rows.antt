@@ -1,0 +1,61 @@
+-- What a turn of each loop adds: to the neighbours' word, to a row of links, and to a row of a table that is filled.
+use Prim.Native.Nat.{ℕ, zero, suc, _+_, _≤_, _<_}
+use native.Mathlib.Numerals.{add-one}
+use native.Mathlib.Omega.{arith}
+use mathlib.Core.Path.{_≡_, refl, sym, ap, _∙_, subst}
+use mathlib.Core.List.{List}
+use mathlib.Core.Bool.{Bool, true, false, and-false}
+use lib.ListN.{length, getD, set}
+use lib.Seq.{getD-set-same, getD-set-other}
+use lib.Dec.{ltb, eqb}
+use borrow.Author.Count.{below-more}
+use borrow.Author.Tests.{ne-eqb, eq-eqb}
+use Rattle.lists.specs.Lists.{every}
+use Rattle.lists.proofs.Tests.{and-true, every-all, every-not}
+use Rattle.words.specs.Words.{wordOf}
+use Rattle.words.proofs.Masks.{wordOf-step, wordOf-skip}
+use Rattle.network.specs.Network.{linkAt, neighboursAt}
+use Rattle.network.specs.Steps.{withLink, pairAt, rowAt}
+use Rattle.network.proofs.Entries.{node-many, link-from-none}
+
+-- ---- neighbours
+wordOf-none : (k : ℕ) (f : ℕ → Bool) → ((i : ℕ) → f i ≡ false) → wordOf k f ≡ 0
+unfolding wordOf
+wordOf-none zero f none = refl
+wordOf-none (suc k) f none = wordOf-skip k f (none k) ∙ wordOf-none k f none
+
+-- where there are too many nodes, none has a neighbour
+pub neighbours-many : (n : ℕ) (links : List ℕ) (U : ℕ) → 32 < n → neighboursAt n links U ≡ 0
+unfolding neighboursAt
+neighbours-many n links U many =
+    wordOf-none n (λ W. ltb 0 (linkAt n links U W)) (λ W. ap (λ (x : ℕ). ltb 0 x) (link-from-none n links U W (node-many n U many)))
+
+pub one-more : (n : ℕ) (links : List ℕ) (U W word : ℕ) → W < 32 → word ≡ wordOf W (λ X. ltb 0 (linkAt n links U X))
+    → withLink n links U W word ≡ wordOf (W + 1) (λ X. ltb 0 (linkAt n links U X))
+unfolding withLink
+one-more n links U W word few e =
+    ap (λ (w : ℕ). withLink n links U W w) e
+    ∙ sym (ap (λ (k : ℕ). wordOf k (λ X. ltb 0 (linkAt n links U X))) (add-one W) ∙ wordOf-step W (λ X. ltb 0 (linkAt n links U X)) few)
+
+-- ---- a row of links
+module _ (n : ℕ) (links : List ℕ) (U : ℕ) where
+  pub row-loop : 0 < linkAt n links U U → rowAt n links U ≡ false
+  unfolding rowAt
+  row-loop some = simp (ne-eqb (linkAt n links U U) 0 (λ (z : linkAt n links U U ≡ 0). omega arith))
+
+  pub row-one-way : (W : ℕ) → W < U → pairAt n links U W ≡ false → rowAt n links U ≡ false
+  unfolding rowAt
+  row-one-way W w e = rw (every-not U (λ X. pairAt n links U X) W w e, and-false (eqb (linkAt n links U U) 0))
+
+  pub row-good : linkAt n links U U ≤ 0 → ((W : ℕ) → W < U → pairAt n links U W ≡ true) → rowAt n links U ≡ true
+  unfolding rowAt
+  row-good none all =
+      and-true (eqb (linkAt n links U U) 0) (every U (λ X. pairAt n links U X)) (eq-eqb (linkAt n links U U) 0 (omega arith)) (every-all U (λ X. pairAt n links U X) all)
+
+-- ---- a table that is filled from the front: what holds of each element below i, and of the one that is stored at i, holds below i + 1
+pub set-more : {A : Type 0} (P : ℕ → A → Type 0) (d : A) (l : List A) (i : ℕ) (v : A) → i < length l
+    → ((k : ℕ) → k < i → P k (getD l k d)) → P i v → (k : ℕ) → k < i + 1 → P k (getD (set l i v) k d)
+set-more P d l i v h all here =
+    below-more (λ (k : ℕ). P k (getD (set l i v) k d)) i
+    (λ k lt. subst (P k) (sym (getD-set-other l i k v d (λ (e : k ≡ i). omega arith))) (all k lt))
+    (subst (P i) (sym (getD-set-same l i v d h)) here)

@@ -1,0 +1,3 @@
+pub mod Network
+pub mod Answers
+pub mod Steps

@@ -1,0 +1,88 @@
+-- `table::first_waiting` meets its contract: a law for each thing that the search may find.
+use mathlib.Core.Path.{sym, ap, _∙_}
+use denote.Ref.{now}
+use native.Mathlib.Nat.{mod-lt}
+use native.Mathlib.Omega.{arith}
+use borrow.Author.Needs.{needs}
+use Rattle.network.specs.Network.{networkOf}
+use Rattle.table.specs.Table.{tableOf}
+use Rattle.table.proofs.Begins.{Ready, is-ready, is-refused, divides, rows-few, rows-at-hand}
+use Rattle.table.proofs.Found.{first-message, first-quiet, first-refused}
+use Rattle.table.proofs.first_waiting.Statement.{statement}
+use Rattle.table.proofs.first_waiting.Tie as tie
+
+prepared : (c : tie.After-known-told) → Ready (networkOf (c .before .before .before .before .before .before .before .before .before .args .n) (c .before .before .before .before .before .before .before .before .before .args .p) (c .before .before .before .before .before .before .before .before .before .args .h) (now (c .before .before .before .before .before .before .before .before .before .args .links)) (now (c .before .before .before .before .before .before .before .before .before .args .functions)))
+    (tableOf (now (c .before .before .before .before .before .before .before .before .before .args .cost)) (now (c .before .before .before .before .before .before .before .before .before .args .way)) (now (c .before .before .before .before .before .before .before .before .before .args .waiting))) (c .before .stacks .given .0 .0)
+prepared c = is-ready _ _ _ (sym (c .before .before .before .ready .ensures) ∙ c .before .stacks .given .1)
+
+ready-requires : tie.Need-ready-requires
+ready-requires c κs = search needs
+
+enum-known-stacks : tie.Need-enum-known-stacks
+enum-known-stacks c = search needs
+
+mul-search : tie.Need-mul-search
+mul-search c = omega (arith, divides _ _ _ (prepared c))
+
+search-requires : tie.Need-search-requires
+search-requires c κs = (rows-at-hand _ _ _ (prepared c), rows-few _ _ _ (prepared c) .0)
+
+enum-known-at : tie.Need-enum-known-at
+enum-known-at c = search needs
+
+div-t21 : tie.Need-div-t21
+div-t21 c = divides _ _ _ (prepared (c .before .before .before .before)) .some
+
+div-t22 : tie.Need-div-t22
+div-t22 c = divides _ _ _ (prepared (c .before .before .before .before)) .nodes
+
+div-t23 : tie.Need-div-t23
+div-t23 c = divides _ _ _ (prepared (c .before .before .before .before)) .some
+
+rem-t24 : tie.Need-rem-t24
+rem-t24 c = divides _ _ _ (prepared (c .before .before .before .before)) .nodes
+
+rem-t25 : tie.Need-rem-t25
+rem-t25 c = divides _ _ _ (prepared (c .before .before .before .before)) .some
+
+add-t26 : tie.Need-add-t26
+add-t26 c = omega (arith, mod-lt (c .before .at .given .0 .0) (divides _ _ _ (prepared (c .before .before .before .before)) .some), divides _ _ _ (prepared (c .before .before .before .before)))
+
+enum-told : tie.Need-enum-told
+enum-told c = search needs
+
+enum-known-refusal : tie.Need-enum-known-refusal
+enum-known-refusal c = search needs
+
+returns : tie.Need-returns
+returns c = first-message _ _ _ (prepared (c .before .before .before .before)) (c .before .at .given .0 .0) (c .before .at .given .0 .1 .0) (sym (c .before .before .before .search .ensures) ∙ c .before .at .given .1)
+
+returns-2 : tie.Need-returns-2
+returns-2 c = first-quiet _ _ _ (prepared (c .before .before .before)) (sym (c .before .before .search .ensures) ∙ c .enum-told .given .1)
+
+returns-3 : tie.Need-returns-3
+returns-3 c =
+    let h = is-refused (networkOf (c .before .before .before .before .before .before .before .before .before .args .n) (c .before .before .before .before .before .before .before .before .before .args .p) (c .before .before .before .before .before .before .before .before .before .args .h) (now (c .before .before .before .before .before .before .before .before .before .args .links)) (now (c .before .before .before .before .before .before .before .before .before .args .functions)))
+    (tableOf (now (c .before .before .before .before .before .before .before .before .before .args .cost)) (now (c .before .before .before .before .before .before .before .before .before .args .way)) (now (c .before .before .before .before .before .before .before .before .before .args .waiting))) (c .before .refusal .given .0 .0) (sym (c .before .before .before .ready .ensures) ∙ c .before .refusal .given .1) in
+    first-refused _ _ _ h
+
+pub first-waiting-spec : {M : Type 1} → statement M
+first-waiting-spec =
+    tie.close
+    (tie.spec
+    ready-requires
+    enum-known-stacks
+    mul-search
+    search-requires
+    enum-known-at
+    div-t21
+    div-t22
+    div-t23
+    rem-t24
+    rem-t25
+    add-t26
+    enum-told
+    enum-known-refusal
+    returns
+    returns-2
+    returns-3)

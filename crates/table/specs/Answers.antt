@@ -1,0 +1,114 @@
+-- What each call answers and what it leaves in the table, for every input: these are the contracts. The parts "Tables" and "Refusal numbers" of the specification.
+use Prim.Native.Nat.{ℕ}
+use mathlib.Core.Bool.{Bool, cond, _&&_}
+use lib.ListN.{length, getD}
+use lib.Dec.{leb, ltb, eqb}
+use Rattle.stacks.specs.Stacks.{okNumber}
+use Rattle.words.specs.Words.{has, onesIn, firstIn}
+use Rattle.words.specs.declared.Found.{Found}
+use Rattle.network.specs.Network.{Network, stacks, refusalOf, present}
+use Rattle.network.specs.declared.Checked.{Checked}
+use Rattle.table.specs.Table.{Table, ceiling, rowsAll, place, nodeAt, destinationAt, numberAt, fresh, delivered, offersTaken}
+use Rattle.table.specs.declared.Counted.{Counted}
+use Rattle.table.specs.declared.First.{First}
+use Rattle.table.specs.declared.Delivered.{Delivered}
+
+-- the refusal where a test fails, and else what comes next
+abbrev pub unless : Bool → ℕ → ℕ → ℕ
+unless holds refusal next = cond holds next refusal
+
+-- "a table slice of the wrong length" is refusal 3: the lengths of the three slices
+unfoldable pub okLengths : Network → ℕ → ℕ → ℕ → Bool
+okLengths net costs ways waits = eqb costs (rowsAll net) && (eqb ways (rowsAll net) && eqb waits (rowsAll net))
+
+-- ready, with which every call begins: how many stacks there are where neither the network nor a slice's length is refused
+abbrev pub readyOf : Network → ℕ → ℕ → ℕ → Checked
+readyOf net costs ways waits =
+    cond (eqb (refusalOf net) 0) (cond (okLengths net costs ways waits) (Checked.Stacks (stacks net)) (Checked.Refused 3)) (Checked.Refused (refusalOf net))
+
+module _ (net : Network) (t : Table) where
+  abbrev pub okTable : Bool
+  okTable = okLengths net (length (t .cost)) (length (t .way)) (length (t .waiting))
+
+  -- refusals 1, 2 and 3, which every call tests first
+  unfoldable pub refusal : ℕ
+  refusal = cond (eqb (refusalOf net) 0) (unless okTable 3 0) (refusalOf net)
+
+  -- fresh: "It answers the count of waiting bits."
+  abbrev pub freshAnswer : Counted
+  freshAnswer = cond (eqb refusal 0) (Counted.Messages (onesIn (fresh net .waiting))) (Counted.Refused refusal)
+
+  unfoldable pub freshTable : Table
+  freshTable = cond (eqb refusal 0) (fresh net) t
+
+  -- count: "The count of waiting messages is the number of one bits in all waiting words"
+  abbrev pub countAnswer : Counted
+  countAnswer = cond (eqb refusal 0) (Counted.Messages (onesIn (t .waiting))) (Counted.Refused refusal)
+
+  -- first waiting: "By node, then row, then lowest bit, the first set bit of the whole table, or quiet"; the rows lie in that order
+  abbrev pub firstOf : Found → First
+  firstOf Found.Nowhere = First.Quiet
+  firstOf (Found.At i bit) = First.Message (nodeAt net i) (destinationAt net i) (numberAt net i) bit
+
+  abbrev pub firstAnswer : First
+  firstAnswer = cond (eqb refusal 0) (firstOf (firstIn (t .waiting))) (First.Refused refusal)
+
+  module _ (Q U D N : ℕ) where
+    -- refusal 4: "node not below n, .. stack number 0 or above S"
+    unfoldable pub okMessage : Bool
+    okMessage = ltb Q (net .n) && (ltb U (net .n) && (ltb D (net .n) && okNumber (net .p) (net .h) N))
+
+    -- refusal 5: "the waiting bit is not set"
+    unfoldable pub waits : Bool
+    waits = has (getD (t .waiting) (place net Q D N) 0) U
+
+    -- refusal 7: "sender's cost above the ceiling, or no link U to V"
+    unfoldable pub carries : Bool
+    carries = leb (getD (t .cost) (place net Q D N) 0) ceiling && present net U Q
+
+    -- deliver's refusals once the network and the table are found right, and all of them in order
+    unfoldable pub stepRefusal : ℕ
+    stepRefusal = unless okMessage 4 (unless waits 5 (unless carries 7 0))
+
+    unfoldable pub deliverRefusal : ℕ
+    deliverRefusal = cond (eqb refusal 0) stepRefusal refusal
+
+    abbrev pub deliverAnswer : Delivered
+    deliverAnswer = cond (eqb deliverRefusal 0) (Delivered.Rows (offersTaken net t Q U D N)) (Delivered.Refused deliverRefusal)
+
+    unfoldable pub deliverTable : Table
+    deliverTable = cond (eqb deliverRefusal 0) (delivered net t Q U D N) t
+
+-- "A refusal returns its number and zeros": the refusal number of an answer, 0 where nothing is refused, and the values that go with it.
+abbrev pub countedRefusal : Counted → ℕ
+countedRefusal (Counted.Messages m) = 0
+countedRefusal (Counted.Refused r) = r
+
+abbrev pub countedMessages : Counted → ℕ
+countedMessages (Counted.Messages m) = m
+countedMessages (Counted.Refused r) = 0
+
+abbrev pub deliveredRefusal : Delivered → ℕ
+deliveredRefusal (Delivered.Rows x) = 0
+deliveredRefusal (Delivered.Refused r) = r
+
+abbrev pub deliveredRows : Delivered → ℕ
+deliveredRows (Delivered.Rows x) = x
+deliveredRows (Delivered.Refused r) = 0
+
+-- of the first message: sender, destination, stack number and receiver; a stack number of 0, which no message has, where none waits
+pub record Message : Type 0 where
+  pub sender : ℕ
+  pub destination : ℕ
+  pub number : ℕ
+  pub receiver : ℕ
+
+abbrev pub firstRefusal : First → ℕ
+firstRefusal (First.Message Q D N U) = 0
+firstRefusal First.Quiet = 0
+firstRefusal (First.Refused r) = r
+
+abbrev pub firstMessage : First → Message
+firstMessage (First.Message Q D N U) = record { sender = Q; destination = D; number = N; receiver = U }
+firstMessage First.Quiet = record { sender = 0; destination = 0; number = 0; receiver = 0 }
+firstMessage (First.Refused r) = record { sender = 0; destination = 0; number = 0; receiver = 0 }

@@ -1,0 +1,122 @@
+-- The routing table and what the calls do to it: the part "Tables" of the specification.
+use Prim.Native.Nat.{ℕ, _+_, _-_, _*_, _/_, _%_}
+use mathlib.Core.Path.{_≡_}
+use mathlib.Core.List.{List}
+use mathlib.Core.Bool.{Bool, cond, _&&_}
+use lib.ListN.{length, getD, set}
+use lib.Dec.{leb, eqb}
+use borrow.Rule.Slice.PartMut.{midOf, putMid}
+use Rattle.lists.specs.Lists.{tabulate}
+use Rattle.network.specs.Network.{Network, stacks, link, neighbours, word, accepts}
+use Rattle.words.specs.Words.{without}
+use Rattle.hear.specs.Hearing.{Gateway, Message, Rows, heard, taken}
+
+-- "Three lent slices, each n x n x S long."
+pub record Table : Type 0 where
+  pub cost : List ℕ
+  pub way : List ℕ
+  pub waiting : List ℕ
+
+abbrev pub tableOf : List ℕ → List ℕ → List ℕ → Table
+tableOf cost way waiting = record { cost = cost; way = way; waiting = waiting }
+
+-- "4,294,967,295 is no row"; "65,535 where there is no row or the packet is delivered here"; "here called the ceiling"
+abbrev pub noRow : ℕ
+noRow = 4294967295
+
+abbrev pub noWay : ℕ
+noWay = 65535
+
+abbrev pub ceiling : ℕ
+ceiling = 2147303427
+
+module _ (net : Network) where
+  -- how many rows one gateway has, and how many there are in all
+  abbrev pub rowsEach : ℕ
+  rowsEach = net .n * stacks net
+
+  abbrev pub rowsAll : ℕ
+  rowsAll = net .n * rowsEach
+
+  -- "The row for node U, destination D, stack number N is at (U x n + D) x S + N - 1."
+  abbrev pub place : ℕ → ℕ → ℕ → ℕ
+  place U D N = (U * net .n + D) * stacks net + (N - 1)
+
+  -- so the row at place i is of this node, this destination and this stack number
+  abbrev pub nodeAt : ℕ → ℕ
+  nodeAt i = i / stacks net / net .n
+
+  abbrev pub destinationAt : ℕ → ℕ
+  destinationAt i = i / stacks net % net .n
+
+  abbrev pub numberAt : ℕ → ℕ
+  numberAt i = i % stacks net + 1
+
+  -- within one gateway's rows, and so for one destination over all gateways, a node with a stack number stands at this place
+  abbrev pub vertex : ℕ → ℕ → ℕ
+  vertex U N = U * stacks net + (N - 1)
+
+  abbrev pub nodeOf : ℕ → ℕ
+  nodeOf v = v / stacks net
+
+  abbrev pub numberOf : ℕ → ℕ
+  numberOf v = v % stacks net + 1
+
+  -- "For each D and each protocol x that D accepts, the row at D for D and stack x": the stack of one protocol x has number x + 1
+  unfoldable pub home : ℕ → ℕ → ℕ → Bool
+  home U D N = eqb U D && (leb N (net .p) && accepts net D (N - 1))
+
+  abbrev pub homeAt : ℕ → Bool
+  homeAt i = home (nodeAt i) (destinationAt i) (numberAt i)
+
+  -- "has cost 0, way 65,535, and a waiting bit for each neighbour of D. All other rows: no row, 65,535, 0."
+  unfoldable pub fresh : Table
+  fresh = record {
+    cost = tabulate rowsAll (λ i. cond (homeAt i) 0 noRow);
+    way = tabulate rowsAll (λ i. noWay);
+    waiting = tabulate rowsAll (λ i. cond (homeAt i) (neighbours net (nodeAt i)) 0);
+  }
+
+  -- the rows of one gateway, which stand together, and the table with other rows in their place
+  unfoldable pub rowsOf : ℕ → Table → Rows
+  rowsOf U t = record {
+    costs = midOf (U * rowsEach) rowsEach (t .cost);
+    ways = midOf (U * rowsEach) rowsEach (t .way);
+    waiting = midOf (U * rowsEach) rowsEach (t .waiting);
+  }
+
+  unfoldable pub withRows : ℕ → Table → Rows → Table
+  withRows U t r = record {
+    cost = putMid (U * rowsEach) rowsEach (t .cost) (r .costs);
+    way = putMid (U * rowsEach) rowsEach (t .way) (r .ways);
+    waiting = putMid (U * rowsEach) rowsEach (t .waiting) (r .waiting);
+  }
+
+  -- the gateway U as the one that hears
+  abbrev pub gateway : ℕ → Gateway
+  gateway U = record { p = net .p; most = stacks net; neighbours = neighbours net U; words = word net U }
+
+  -- "Let c be that row's cost": the message from Q to U about destination D and stack number N carries the cost that its row has now
+  abbrev pub message : Table → ℕ → ℕ → ℕ → ℕ → Message
+  message t Q U D N = record { sender = Q; destination = D; number = N; cost = getD (t .cost) (place Q D N) 0; link = link net U Q }
+
+  -- "Bit U in V's row for (D, H') is cleared."
+  unfoldable pub cleared : Table → ℕ → ℕ → ℕ → ℕ → Table
+  cleared t Q U D N = record {
+    cost = t .cost;
+    way = t .way;
+    waiting = set (t .waiting) (place Q D N) (without (getD (t .waiting) (place Q D N) 0) U);
+  }
+
+  -- the table after the delivery, and "how many rows took an offer"
+  unfoldable pub delivered : Table → ℕ → ℕ → ℕ → ℕ → Table
+  delivered t Q U D N = withRows U (cleared t Q U D N) (heard (gateway U) (message t Q U D N) (rowsOf U (cleared t Q U D N)))
+
+  unfoldable pub offersTaken : Table → ℕ → ℕ → ℕ → ℕ → ℕ
+  offersTaken t Q U D N = taken (gateway U) (message t Q U D N) (rowsOf U (cleared t Q U D N))
+
+-- a table whose slices have the right length
+pub record Sized (net : Network) (t : Table) : Type 0 where
+  pub costs : length (t .cost) ≡ rowsAll net
+  pub ways : length (t .way) ≡ rowsAll net
+  pub waits : length (t .waiting) ≡ rowsAll net

@@ -1,0 +1,36 @@
+// What every call tests first: the network and the lengths of the table's slices.
+ghost use mathlib.Core.Path.{_≡_};
+ghost use Rattle.network.specs.Network.{networkOf};
+ghost use Rattle.table.specs.Answers.{readyOf};
+use network::Checked;
+
+// Refusals 1, 2 and 3; how many stacks there are where none applies.
+pub fn ready(
+    n: usize,
+    p: usize,
+    h: usize,
+    links: &[u16],
+    functions: &[u16],
+    costs: usize,
+    ways: usize,
+    waits: usize,
+) -> Checked
+    ensures { λ r. ⌜ r ≡ readyOf (networkOf n p h (now (links .entry)) (now (functions .entry))) costs ways waits ⌝ }
+{
+    match network::check(n, p, h, links, functions) {
+        Checked::Stacks(stacks) => {
+            let rows = n * (n * stacks);
+            if costs != rows {
+                return Checked::Refused(3);
+            }
+            if ways != rows {
+                return Checked::Refused(3);
+            }
+            if waits != rows {
+                return Checked::Refused(3);
+            }
+            Checked::Stacks(stacks)
+        }
+        Checked::Refused(refusal) => Checked::Refused(refusal),
+    }
+}
