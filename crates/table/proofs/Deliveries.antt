@@ -1,5 +1,5 @@
 -- A delivery read row by row: what each row of the table holds afterwards.
-use Prim.Native.Nat.{ℕ, _+_, _*_, _<_}
+use Prim.Native.Nat.{ℕ, _+_, _*_, _≤_, _<_}
 use native.Mathlib.Decide.{ℕ-discrete}
 use native.Mathlib.Omega.{arith}
 use mathlib.Core.Path.{_≡_, refl, sym, ap, _∙_, subst}
@@ -9,7 +9,7 @@ use mathlib.Core.Bool.{Bool, true, false, cond, _&&_}
 use lib.ListN.{length, getD, length-set}
 use lib.Seq.{getD-set-same, getD-set-other}
 use lib.Dec.{leb, ltb, eqb}
-use borrow.Author.Tests.{ltb-true}
+use borrow.Author.Tests.{ltb-true, leb-true}
 use borrow.Rule.Slice.PartMut.{midOf, putMid}
 use Rattle.lists.proofs.Tests.{both}
 use Rattle.relax.specs.Graph.{wins}
@@ -31,6 +31,7 @@ pub record Goes (net : Network) (t : Table) (Q U D N : ℕ) : Type 0 where
   pub stack : Stack net N
   pub waiting : has (getD (t .waiting) (place net Q D N) 0) U ≡ true
   pub linked : present net U Q ≡ true
+  pub priced : getD (t .cost) (place net Q D N) 0 ≤ ceiling
 
 none-refused : (a b c : Bool) → _≡_ {A = ℕ} (cond a (cond b (cond c 0 7) 5) 4) 0 → (a ≡ true) × (b ≡ true) × (c ≡ true)
 none-refused true true true e = (refl, refl, refl)
@@ -52,6 +53,7 @@ goes net t Q U D N e =
       stack = within (net .p) (net .h) N (c .1);
       waiting = r .1;
       linked = both (leb (getD (t .cost) (place net Q D N) 0) ceiling) (present net U Q) (r .2) .1;
+      priced = leb-true (getD (t .cost) (place net Q D N) 0) ceiling (both (leb (getD (t .cost) (place net Q D N) 0) ceiling) (present net U Q) (r .2) .0);
     }
 
 -- ---- the delivery to U of the message from Q about destination D and stack number N

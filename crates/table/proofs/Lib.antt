@@ -7,14 +7,12 @@ pub mod Blocks
 pub mod Found
 pub mod HomePlaces
 pub mod Starts
-pub mod StepPlaces
-pub mod Parts
 pub mod StepTests
 pub mod Receiving
-pub mod Changes
-pub mod Offers
 pub mod Rows
 pub mod Deliveries
+pub mod Offers
+pub mod Parts
 pub mod Running
 pub mod Keeping
 pub mod Marks

@@ -1,136 +1,137 @@
 -- THE LAWS of a delivery, row by row: which rows stay, which took an offer, of which one function, and that no offer wraps.
-use Prim.Native.Nat.{ℕ, _+_, _-_, _*_, _/_, _%_, _≤_, _<_}
-use native.Mathlib.Decide.{ℕ-discrete, decLt}
+use Prim.Native.Nat.{ℕ, _+_, _*_, _≤_, _<_}
 use native.Mathlib.Omega.{arith}
-use mathlib.Core.Path.{_≡_, sym, ap, _∙_}
-use mathlib.Core.Logic.{by-cases, _⊎_, inl, inr}
-use mathlib.Core.Bool.{true, false, false≢true}
+use mathlib.Core.Path.{_≡_, refl, sym, ap, _∙_, subst}
+use mathlib.Core.Logic.{_⊎_, inl, inr}
+use mathlib.Core.Bool.{true, false}
 use lib.ListN.{getD}
-use borrow.Author.Tests.{ltb-true, lt-ltb}
-use Rattle.lists.proofs.Tests.{bool-cases}
+use lib.Dec.{ltb, eqb}
+use borrow.Author.Tests.{ltb-true, lt-ltb, eq-eqb, ne-eqb}
+use Rattle.lists.proofs.Tests.{bool-cases, both}
+use Rattle.relax.specs.Graph.{wins}
+use Rattle.relax.proofs.Laws.{wins-below, loses-above}
 use Rattle.stacks.specs.Answers.{movedOf}
-use Rattle.stacks.specs.declared.After.the-variants.{Number}
+use Rattle.stacks.specs.declared.After.{After}
 use Rattle.words.specs.Words.{without, withAll}
-use Rattle.network.specs.Network.{Network, stacks, neighbours, word, can}
-use Rattle.network.proofs.Laws.{weight-most}
-use Rattle.hear.specs.Hearing.{leaderAt, offer, takes, costAt, wayAt, waitingAt}
-use Rattle.hear.proofs.Laws.{leader-leads, leader-is, heard-other, takes-facts, takes-where}
-use Rattle.table.specs.Table.{Table, noRow, rowsEach, place, nodeAt, destinationAt, numberAt, gateway, message, delivered}
+use Rattle.network.specs.Network.{Network, stacks, link, present, neighbours, word, can, price, weight, refusalOf}
+use Rattle.network.proofs.Laws.{valid, weight-most}
+use Rattle.hear.specs.Hearing.{offer}
+use Rattle.hear.proofs.Laws.{leader-leads, leader-is}
+use Rattle.table.specs.Table.{Table, Sized, noRow, place, gateway, message, cleared, delivered}
 use Rattle.table.specs.Answers.{stepRefusal}
-use Rattle.table.proofs.Begins.{Ready}
-use Rattle.table.proofs.StepTests.{passed}
-use Rattle.table.proofs.Changes.{before, words, offered, offered-is, apart, word-here, word-there, sender-row, other-gateway, before-row, own-cost, own-way, own-waiting, own-word, row-is}
+use Rattle.table.proofs.Rows.{Stack, same-row}
+use Rattle.table.proofs.Deliveries.{Goes, goes, leaderOf, offerTo, took, changes, stays, cleared-row, kept-row}
 
--- f is a function of U, and makes the stack N of the stack of the row at i
-pub record Leads (net : Network) (U N i f : ℕ) : Type 0 where
+-- f is a function of U, and makes the stack with number N of the one with number M
+pub record Leads (net : Network) (U N M f : ℕ) : Type 0 where
   pub low : f < 192
-  pub has : can net U f ≡ true
-  pub makes : movedOf (net .p) (stacks net) f (numberAt net i) ≡ Number N
+  pub has-it : can net U f ≡ true
+  pub makes : movedOf (net .p) (stacks net) f M ≡ After.Number N
 
--- the row at i took the offer of f, and of no other function
-pub record Took (net : Network) (t : Table) (Q U D N i f : ℕ) : Type 0 where
-  pub leads : Leads net U N i f
-  pub only : (g : ℕ) → Leads net U N i g → g ≡ f
-  pub cheaper : offered net t Q U D N f < getD (t .cost) i 0
-  pub cost : getD (delivered net t Q U D N .cost) i 0 ≡ offered net t Q U D N f
-  pub way : getD (delivered net t Q U D N .way) i 0 ≡ 256 * Q + f
-  pub waiting : getD (delivered net t Q U D N .waiting) i 0 ≡ withAll (getD (t .waiting) i 0) (neighbours net U)
+module _ (net : Network) (t : Table) (Q U D N : ℕ) where
+  -- "the offer is c + link(U,V) + price(U,f)"
+  abbrev pub offered : ℕ → ℕ
+  offered f = getD (t .cost) (place net Q D N) 0 + weight net U f Q
 
--- the row at i is as it was
-pub record Stays (net : Network) (t : Table) (Q U D N i : ℕ) : Type 0 where
-  pub cost : getD (delivered net t Q U D N .cost) i 0 ≡ getD (t .cost) i 0
-  pub way : getD (delivered net t Q U D N .way) i 0 ≡ getD (t .way) i 0
-  pub waiting : getD (delivered net t Q U D N .waiting) i 0 ≡ getD (words net t Q U D N) i 0
+  offered-is : (f : ℕ) → offer (gateway net U) (message net t Q U D N) f ≡ offered f
+  unfolding offer weight price
+  offered-is f = omega arith
 
-module _ (net : Network) (t : Table) (s Q U D N : ℕ) (w : Ready net t s) (none : stepRefusal net t Q U D N ≡ 0) where
-  -- ---- rows that are not of the receiver and the destination
-  pub other-row : (i : ℕ) → (nodeAt net i ≡ U → destinationAt net i ≡ D → ⊥) → Stays net t Q U D N i
-  other-row i other = by-cases (ℕ-discrete (nodeAt net i) U)
-      (λ mine.
-      let h = heard-other (gateway net U) (message net t Q U D N) (before net t Q U D N) (i - U * rowsEach net) (λ (e : (i - U * rowsEach net) / stacks net ≡ D). other mine (sym (row-is net t s Q U D N w none i mine .0) ∙ e)) in
-      let b = before-row net t s Q U D N w none i mine in
-      record {
-        cost = own-cost net t s Q U D N w none i mine ∙ h .0 ∙ b .0;
-        way = own-way net t s Q U D N w none i mine ∙ h .1 ∙ b .1;
-        waiting = own-waiting net t s Q U D N w none i mine ∙ h .2 ∙ b .2 ∙ sym (own-word net t s Q U D N w none i mine);
-      })
-      (λ theirs. let o = other-gateway net t s Q U D N w none i theirs in record { cost = o .0; way = o .1; waiting = o .2 })
+  -- U's row for D and the stack number M took the offer of f, and of no other function
+  pub record Took (M f : ℕ) : Type 0 where
+    pub leads : Leads net U N M f
+    pub only : (g : ℕ) → Leads net U N M g → g ≡ f
+    pub cheaper : offered f < getD (t .cost) (place net U D M) 0
+    pub cost : getD (delivered net t Q U D N .cost) (place net U D M) 0 ≡ offered f
+    pub way : getD (delivered net t Q U D N .way) (place net U D M) 0 ≡ 256 * Q + f
+    pub waiting : getD (delivered net t Q U D N .waiting) (place net U D M) 0 ≡ withAll (getD (t .waiting) (place net U D M) 0) (neighbours net U)
 
-  -- in the sender's word bit U alone is cleared, and every other word stays
-  pub sender-word : getD (delivered net t Q U D N .waiting) (place net Q D N) 0 ≡ without (getD (t .waiting) (place net Q D N) 0) U
-  sender-word =
-      other-row (place net Q D N) (λ (e : nodeAt net (place net Q D N) ≡ U) d. apart net t s Q U D N w none (sym (sender-row net t s Q U D N w none) ∙ e)) .waiting
-      ∙ word-here net t s Q U D N w none
+  -- the row of W, E and M is as it was, but for the one bit that the delivery clears
+  pub record Kept (W E M : ℕ) : Type 0 where
+    pub cost : getD (delivered net t Q U D N .cost) (place net W E M) 0 ≡ getD (t .cost) (place net W E M) 0
+    pub way : getD (delivered net t Q U D N .way) (place net W E M) 0 ≡ getD (t .way) (place net W E M) 0
+    pub waiting : getD (delivered net t Q U D N .waiting) (place net W E M) 0 ≡ getD (cleared net t Q U D N .waiting) (place net W E M) 0
 
-  pub other-word : (i : ℕ) → (nodeAt net i ≡ U → destinationAt net i ≡ D → ⊥) → (i ≡ place net Q D N → ⊥) → getD (delivered net t Q U D N .waiting) i 0 ≡ getD (t .waiting) i 0
-  other-word i other elsewhere = other-row i other .waiting ∙ word-there net t s Q U D N w none i elsewhere
+  module _ (sized : Sized net t) (right : refusalOf net ≡ 0) (made : stepRefusal net t Q U D N ≡ 0) where
+    g : Goes net t Q U D N
+    g = goes net t Q U D N made
 
-  -- ---- a row of the receiver for the destination
-  module _ (i : ℕ) (mine : nodeAt net i ≡ U) (about : destinationAt net i ≡ D) where
-    number-is : (i - U * rowsEach net) % stacks net + 1 ≡ numberAt net i
-    number-is = row-is net t s Q U D N w none i mine .1
+    -- the sender is another node than the receiver
+    apart : Q ≡ U → ⊥
+    unfolding present
+    apart e =
+        let link-none = valid net right .no-loop U in
+        let linked = subst (λ (k : ℕ). present net U k ≡ true) e (g .linked) in
+        omega (arith, link-none, ltb-true 0 (link net U U) linked)
 
-    leading : (g : ℕ) → Leads net U N i g → leaderAt (gateway net U) (message net t Q U D N) (i - U * rowsEach net) ≡ g
-    unfolding can
-    leading g l =
-        leader-is (gateway net U) (message net t Q U D N) ((i - U * rowsEach net) % stacks net + 1) g (l .low) (ltb-true 0 (word net U g) (l .has))
-        (ap (movedOf (net .p) (stacks net) g) number-is ∙ l .makes)
+    -- ---- every row that is not of the receiver and the destination stays
+    pub other-row : (W E M : ℕ) → E < net .n → Stack net M → (W ≡ U → E ≡ D → ⊥) → Kept W E M
+    unfolding took
+    other-row W E M e m other =
+        let s = stays net t Q U D N sized (g .receiver) E M e m W (λ (q : W ≡ U). simp (ne-eqb E D (other q))) in
+        record { cost = s .cost; way = s .way; waiting = s .waiting }
 
-    leads-so : leaderAt (gateway net U) (message net t Q U D N) (i - U * rowsEach net) < 192
-        → Leads net U N i (leaderAt (gateway net U) (message net t Q U D N) (i - U * rowsEach net))
-    unfolding can
-    leads-so low =
-        let l = leader-leads (gateway net U) (message net t Q U D N) ((i - U * rowsEach net) % stacks net + 1) low in
-        let f = leaderAt (gateway net U) (message net t Q U D N) (i - U * rowsEach net) in
-        record {
-          low = low;
-          has = lt-ltb 0 (word net U f) (l .0);
-          makes = ap (movedOf (net .p) (stacks net) f) (sym number-is) ∙ l .1;
-        }
+    -- in the sender's word bit U alone is cleared, and every other word there stays
+    pub sender-word : getD (delivered net t Q U D N .waiting) (place net Q D N) 0 ≡ without (getD (t .waiting) (place net Q D N) 0) U
+    sender-word =
+        other-row Q D N (g .destination) (g .stack) (λ q _. apart q) .waiting
+        ∙ cleared-row net t Q U D N sized (g .sender) (g .destination) (g .stack)
 
-    -- it takes an offer,
-    pub took : takes (gateway net U) (message net t Q U D N) (before net t Q U D N .costs) (i - U * rowsEach net) ≡ true
-        → Took net t Q U D N i (leaderAt (gateway net U) (message net t Q U D N) (i - U * rowsEach net))
-    unfolding costAt wayAt waitingAt
-    took e =
-        let x = takes-facts (gateway net U) (message net t Q U D N) (before net t Q U D N .costs) (i - U * rowsEach net) e in
-        let b = before-row net t s Q U D N w none i mine in
-        let f = leaderAt (gateway net U) (message net t Q U D N) (i - U * rowsEach net) in
-        record {
-          leads = leads-so (x .1);
-          only = λ g l. sym (leading g l);
-          cheaper = omega (arith, x .2, b .0, offered-is net t Q U D N f);
-          cost = own-cost net t s Q U D N w none i mine ∙ simp e (offered-is net t Q U D N f);
-          way = own-way net t s Q U D N w none i mine ∙ simp e;
-          waiting = own-waiting net t s Q U D N w none i mine ∙ simp e (ap (λ (x : ℕ). withAll x (neighbours net U)) (b .2));
-        }
+    pub other-word : (W E M : ℕ) → E < net .n → Stack net M → (W ≡ U → E ≡ D → ⊥) → (place net W E M ≡ place net Q D N → ⊥)
+        → getD (delivered net t Q U D N .waiting) (place net W E M) 0 ≡ getD (t .waiting) (place net W E M) 0
+    other-word W E M e m other elsewhere = other-row W E M e m other .waiting ∙ kept-row net t Q U D N sized (place net W E M) elsewhere
 
-    -- or it stays, and no offer was below its cost
-    pub kept : takes (gateway net U) (message net t Q U D N) (before net t Q U D N .costs) (i - U * rowsEach net) ≡ false
-        → Stays net t Q U D N i × ((f : ℕ) → Leads net U N i f → getD (t .cost) i 0 ≤ offered net t Q U D N f)
-    unfolding costAt wayAt waitingAt
-    kept e =
-        let b = before-row net t s Q U D N w none i mine in (
+    -- ---- a row of the receiver and the destination
+    module _ (M : ℕ) (m : Stack net M) where
+      -- the message is not about it
+      not-sent : place net U D M ≡ place net Q D N → ⊥
+      not-sent e = apart (sym (same-row net U D M Q D N (g .destination) (g .destination) m (g .stack) e .nodes))
+
+      did : took net t Q U D N D M ≡ true → (leaderOf net t Q U D N M < 192) × (offered (leaderOf net t Q U D N M) < getD (t .cost) (place net U D M) 0)
+      unfolding took
+      did e =
+          let a = both (eqb D D) _ e in
+          let b = both (ltb (leaderOf net t Q U D N M) 192) _ (a .1) in
+          (ltb-true _ 192 (b .0), omega (arith, offered-is (leaderOf net t Q U D N M), wins-below (offerTo net t Q U D N M) (getD (t .cost) (place net U D M) 0) (b .1)))
+
+      led : (f : ℕ) → Leads net U N M f → leaderOf net t Q U D N M ≡ f
+      unfolding can
+      led f l = leader-is (gateway net U) (message net t Q U D N) M f (l .low) (ltb-true 0 (word net U f) (l .has-it)) (l .makes)
+
+      leading : leaderOf net t Q U D N M < 192 → Leads net U N M (leaderOf net t Q U D N M)
+      unfolding can
+      leading low =
+          let l = leader-leads (gateway net U) (message net t Q U D N) M low in
+          record { low = low; has-it = lt-ltb 0 (word net U (leaderOf net t Q U D N M)) (l .0); makes = l .1 }
+
+      row-took : took net t Q U D N D M ≡ true → Took M (leaderOf net t Q U D N M)
+      row-took e =
+          let d = did e in
+          let c = changes net t Q U D N sized (g .receiver) D M (g .destination) m e in
           record {
-            cost = own-cost net t s Q U D N w none i mine ∙ simp e (b .0);
-            way = own-way net t s Q U D N w none i mine ∙ simp e (b .1);
-            waiting = own-waiting net t s Q U D N w none i mine ∙ simp e (b .2 ∙ sym (own-word net t s Q U D N w none i mine));
-          },
-          λ f l. not-below f l,
-        )
-      where
-        not-below : (f : ℕ) → Leads net U N i f → getD (t .cost) i 0 ≤ offered net t Q U D N f
-        not-below f l = by-cases (decLt (offered net t Q U D N f) (getD (t .cost) i 0))
-            (λ less. absurd (false≢true (sym e ∙ takes-where (gateway net U) (message net t Q U D N) (before net t Q U D N .costs) (i - U * rowsEach net)
-            (row-is net t s Q U D N w none i mine .0 ∙ about) (omega (arith, leading f l, l .low))
-            (omega (arith, less, before-row net t s Q U D N w none i mine .0, offered-is net t Q U D N f, ap (offer (gateway net U) (message net t Q U D N)) (leading f l))))))
-            (λ more. omega arith)
+            leads = leading (d .0);
+            only = λ f l. sym (led f l);
+            cheaper = d .1;
+            cost = c .cost ∙ offered-is (leaderOf net t Q U D N M);
+            way = c .way;
+            waiting = c .waiting ∙ ap (λ (w : ℕ). withAll w (neighbours net U)) (kept-row net t Q U D N sized (place net U D M) not-sent);
+          }
 
-    pub own-row : ((f : ℕ) × Took net t Q U D N i f) ⊎ (Stays net t Q U D N i × ((f : ℕ) → Leads net U N i f → getD (t .cost) i 0 ≤ offered net t Q U D N f))
-    own-row = bool-cases (takes (gateway net U) (message net t Q U D N) (before net t Q U D N .costs) (i - U * rowsEach net))
-        (λ e. inl (leaderAt (gateway net U) (message net t Q U D N) (i - U * rowsEach net), took e))
-        (λ e. inr (kept e))
+      row-kept : took net t Q U D N D M ≡ false → (f : ℕ) → Leads net U N M f → getD (t .cost) (place net U D M) 0 ≤ offered f
+      unfolding took
+      row-kept e f l =
+          let q = led f l in
+          let low = lt-ltb (leaderOf net t Q U D N M) 192 (omega (arith, l .low)) in
+          let lost : wins (offerTo net t Q U D N M) (getD (t .cost) (place net U D M) 0) ≡ false = simp (eq-eqb D D refl, low) at e in
+          omega (arith, loses-above (offerTo net t Q U D N M) (getD (t .cost) (place net U D M) 0) lost, offered-is (leaderOf net t Q U D N M), ap offered q)
 
-  -- ---- no offer wraps, nor is it taken for "no row", where the network's lists hold 16-bit numbers
-  pub offer-fits : (f : ℕ) → ((i : ℕ) → getD (net .links) i 0 < 65536) → ((i : ℕ) → getD (net .functions) i 0 < 65536) → offered net t Q U D N f < noRow
-  offer-fits f links functions = omega (arith, passed net t Q U D N none .priced, weight-most net U f Q links functions)
+      -- it took the offer of exactly one function, or stayed, and then no function of U offers less
+      pub own-row : ((f : ℕ) × Took M f) ⊎ (Kept U D M × ((f : ℕ) → Leads net U N M f → getD (t .cost) (place net U D M) 0 ≤ offered f))
+      own-row = bool-cases (took net t Q U D N D M)
+          (λ e. inl (leaderOf net t Q U D N M, row-took e))
+          (λ e. let s = stays net t Q U D N sized (g .receiver) D M (g .destination) m U (λ _. e) in
+          inr (record { cost = s .cost; way = s .way; waiting = s .waiting }, row-kept e))
+
+    -- ---- no offer wraps
+    pub offer-fits : (f : ℕ) → ((i : ℕ) → getD (net .links) i 0 < 65536) → ((i : ℕ) → getD (net .functions) i 0 < 65536) → offered f < noRow
+    offer-fits f links functions = omega (arith, weight-most net U f Q links functions, g .priced)

@@ -19,8 +19,7 @@ use Rattle.hear.specs.declared.Heard.{Heard}
 use Rattle.hear.proofs.Laws.{Alike, heard-same, taken-same}
 use Rattle.table.specs.Table.{Table, tableOf, ceiling, rowsEach, rowsAll, rowsOf, withRows, gateway}
 use Rattle.table.specs.Steps.{Prepared, Sent}
-use Rattle.table.proofs.StepPlaces.{part-within}
-use Rattle.table.proofs.Parts.{mid-long}
+use Rattle.table.proofs.Parts.{part-within, mid-long}
 
 -- ---- bounds: the sums of the code fit, and the part of the gateway U is within each slice
 pub record Lends (n s U costs ways waits : ℕ) : Type 0 where

@@ -11,8 +11,7 @@ use Rattle.words.specs.Words.{has, without}
 use Rattle.network.specs.Network.{Network, networkOf, link}
 use Rattle.table.specs.Table.{Table, tableOf, place}
 use Rattle.table.specs.Answers.{okMessage}
-use Rattle.table.proofs.StepPlaces.{row-within, place-so}
-use Rattle.table.proofs.Parts.{in-whole}
+use Rattle.table.proofs.Parts.{row-within, place-so, in-whole}
 use Rattle.table.proofs.StepTests.{no-sender, no-receiver, no-destination, no-number, high-number, good-message, not-waiting, too-dear, no-link, passes, delivers}
 use Rattle.table.proofs.Receiving.{Lends, lends}
 use Rattle.table.proofs.step.step.Statement.{statement}
