@@ -17,4 +17,3 @@ pub mod Running
 pub mod Keeping
 pub mod Marks
 pub mod Turning
-pub mod Examples

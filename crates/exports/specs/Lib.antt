@@ -1,0 +1,4 @@
+pub mod Packing
+pub mod Ranges
+pub mod Run
+pub mod Carry

@@ -1,0 +1,4 @@
+pub mod Packets
+pub mod Looks
+pub mod Tells
+pub mod Travels

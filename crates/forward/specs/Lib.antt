@@ -1,0 +1,3 @@
+pub mod Forward
+pub mod Answers
+pub mod Steps

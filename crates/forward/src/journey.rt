@@ -1,0 +1,110 @@
+// The hops of a packet, in a network and a table that `begin` found right.
+ghost use mathlib.Core.Path.{_≡_};
+ghost use mathlib.Core.List.{List};
+ghost use Prim.Native.Nat.{ℕ, _≤_, _<_};
+ghost use lib.ListN.{length};
+ghost use Rattle.network.specs.Network.{networkOf};
+ghost use Rattle.table.specs.Table.{tableOf};
+ghost use Rattle.forward.specs.Forward.{journey};
+ghost use Rattle.forward.specs.Answers.{Carries, lookRefusal};
+ghost use Rattle.forward.specs.Steps.{Placed, wordAs, hopCost};
+use crate::Carried;
+use crate::Look;
+use crate::row::function_word;
+use crate::row::look;
+
+// The number that a lookup's answer is refused with; 0 where it is not.
+fn refusal_of(found: Look) -> u32
+    ensures { λ r. ⌜ r ≡ lookRefusal found ⌝ }
+{
+    match found {
+        Look::Delivered => 0,
+        Look::Forward(_, _, _, _) => 0,
+        Look::Refused(refusal) => refusal,
+    }
+}
+
+// What one hop costs: the link and the price, which is written down with 1 added.
+fn hop_cost(
+    n: usize,
+    p: usize,
+    links: &[u16],
+    functions: &[u16],
+    node: usize,
+    function: usize,
+    next: usize,
+) -> u64
+    requires { ⌜ 0 < wordAs n p (now functions) node function ⌝ }
+    ensures { λ r. ⌜ (r ≡ hopCost n p (now (links .entry)) (now (functions .entry)) node function next) × (r ≤ 131069) ⌝ }
+{
+    let link = network::link_cost(n, links, node, next);
+    let word = function_word(n, p, functions, node, function);
+    link as u64 + (word - 1) as u64
+}
+
+// Hop by hop: being delivered is tested first, then refusals 6 and 7, then the limit.
+pub(crate) fn travel(
+    n: usize,
+    p: usize,
+    h: usize,
+    stacks: usize,
+    links: &[u16],
+    functions: &[u16],
+    cost: &[u32],
+    way: &[u16],
+    from: usize,
+    destination: usize,
+    first: usize,
+    limit: u64,
+) -> Carried
+    requires { ⌜ Placed (networkOf n p h (now links) (now functions)) stacks (length (now cost)) (length (now way)) from destination first ⌝ }
+    requires { ⌜ limit ≤ 16384 ⌝ }
+    ensures { λ r.
+        ⌜
+        ((waiting : List ℕ) → Carries (journey (networkOf n p h (now (links .entry)) (now (functions .entry))) (tableOf (now (cost .entry)) (now (way .entry)) waiting)
+        destination limit from first) r)
+        ⌝ }
+{
+    let mut hops: u64 = 0;
+    let mut spent: u64 = 0;
+    let mut node = from;
+    let mut number = first;
+    loop {
+        let found = look(
+            n,
+            p,
+            h,
+            stacks,
+            links,
+            functions,
+            cost,
+            way,
+            node,
+            destination,
+            number,
+        );
+        let Look::Forward(next, function, result, _cost) = found else {
+            let refused = refusal_of(found);
+            return Carried {
+                hops,
+                spent,
+                node,
+                number,
+                refused,
+            };
+        };
+        if hops == limit {
+            return Carried {
+                hops,
+                spent,
+                node,
+                number,
+                refused: 8,
+            };
+        }
+        spent += hop_cost(n, p, links, functions, node, function, next);
+        hops += 1;
+        node = next;
+        number = result;
+    }
+}

@@ -1,0 +1,54 @@
+-- What the promises speak of: routes, tables that can come to be, and packets that are carried on. In the words of the specification.
+use Prim.Native.Nat.{ℕ, _+_, _-_, _≤_, _<_}
+use mathlib.Core.Path.{_≡_}
+use mathlib.Core.List.{List, [], _∷_}
+use mathlib.Core.Bool.{true}
+use lib.ListN.{getD}
+use Rattle.stacks.specs.Stacks.{okStack, number}
+use Rattle.stacks.specs.Functions.{apply, becomes}
+use Rattle.words.specs.Words.{onesIn}
+use Rattle.network.specs.Network.{Network, refusalOf, present, can, weight, accepts}
+use Rattle.table.specs.Table.{Table, fresh}
+use Rattle.table.specs.Answers.{deliverTable}
+use Rattle.forward.specs.Answers.{lookupOf}
+use Rattle.forward.specs.declared.Look.{Look}
+
+-- a network that no call refuses, of 16-bit numbers as the slices hold them
+pub record Network16 (net : Network) : Type 0 where
+  pub valid : refusalOf net ≡ 0
+  pub links : (i : ℕ) → getD (net .links) i 0 < 65536
+  pub functions : (i : ℕ) → getD (net .functions) i 0 < 65536
+
+module _ (net : Network) where
+  -- "A route from U with stack H to D: zero or more hops. Each hop applies a function the node has, applicable to the stack, and crosses a
+  -- present link. It ends at D with a stack of height 1 that D accepts. Every stack on it, the first included, has height at most h. Its
+  -- cost is the sum of its hops' costs. Zero hops cost 0."
+  pub data Route (D : ℕ) : ℕ → List ℕ → ℕ → Type 0 where
+    arrived : (x : ℕ) → accepts net D x ≡ true → Route D D (x ∷ []) 0
+    hop : (U W f cost : ℕ) (stack result : List ℕ) → can net U f ≡ true → present net U W ≡ true → okStack (net .p) (net .h) stack ≡ true
+        → apply (net .h) f stack ≡ becomes result → Route D W result cost → Route D U stack (weight net U f W + cost)
+
+  -- "Start from its fresh table and deliver waiting messages in any order, refused calls among them." (A refused call leaves the table.)
+  pub data Reached : Table → Type 0 where
+    begun : Reached (fresh net)
+    delivery : {t : Table} (Q U D N : ℕ) → Reached t → Reached (deliverTable net t Q U D N)
+
+  -- the tables that can come after one
+  pub data Later (t : Table) : Table → Type 0 where
+    now : Later t t
+    delivery : {u : Table} (Q U D N : ℕ) → Later t u → Later t (deliverTable net u Q U D N)
+
+  -- "Once no message waits"
+  abbrev pub Quiet : Table → Type 0
+  Quiet t = onesIn (t .waiting) ≡ 0
+
+  -- "it can be carried on hop by hop, with more deliveries between the hops: each hop is one its gateway may perform, the stack stays within
+  -- the height bound, no lookup refuses, and it arrives with a single header its destination accepts, having spent at most c"
+  pub data Carried (D : ℕ) : Table → ℕ → List ℕ → ℕ → Type 0 where
+    arrived : {t : Table} {c : ℕ} (x : ℕ) → lookupOf net t D D (x ∷ []) ≡ Look.Delivered → accepts net D x ≡ true → Carried D t D (x ∷ []) c
+    onward : {t : Table} {U c : ℕ} {stack : List ℕ} (W f cost : ℕ) (result : List ℕ)
+        → lookupOf net t U D stack ≡ Look.Forward W f (number (net .p) result) cost
+        → can net U f ≡ true → present net U W ≡ true → apply (net .h) f stack ≡ becomes result → okStack (net .p) (net .h) result ≡ true
+        → weight net U f W ≤ c
+        → ((u : Table) → Later t u → Carried D u W result (c - weight net U f W))
+        → Carried D t U stack c

@@ -1,0 +1,107 @@
+/* Bannogwy: routing between gateways that convert, wrap and unwrap packets. Every call takes any numbers and any slices, ends, and answers
+ * either what it is asked or one of the refusal numbers below; a refused call leaves every slice byte for byte as it was (but see run and
+ * carry, which say what they write into the slice that is lent for their answer).
+ *
+ * The network, lent to every call:
+ *   n nodes (1 to 32), p protocols (1 to 8), height bound h (1 to 12); S = p + p^2 + .. + p^h stacks; n x S at most 16,384.
+ *   links: n x n numbers, row U column V: 0 is no link, else the cost of U to V. The diagonal is 0; U to V is present exactly when V to U is.
+ *   functions: for each node three p x p grids, row a column b: convert a to b; wrap a in b; unwrap a from b. 0: the node can't; v: it can,
+ *   at price v - 1. A function's number is 64 x kind + 8a + b (kinds 0, 1, 2).
+ * The table, lent to every call: cost, way and waiting, each n x n x S long; the row of node U, destination D and stack number N is at
+ *   (U x n + D) x S + N - 1. cost 4,294,967,295 is no row; way is 256 x next node + function, or 65,535; waiting has bit V set where a
+ *   message about the row waits for neighbour V.
+ * Stacks are given bottom to top; a stack's number: start at 0, for each protocol q from the bottom up N becomes p x N + q + 1.
+ *
+ * What the caller must guarantee: each pointer is valid for the length given with it (elements, not bytes; a length of 0 may go with any
+ * pointer), slices that a call writes overlap no other slice of the call, and nobody else writes them meanwhile.
+ */
+#ifndef BANNOGWY_H
+#define BANNOGWY_H
+
+#include <stddef.h>
+#include <stdint.h>
+
+#ifdef __cplusplus
+extern "C" {
+#endif
+
+/* Refusal numbers: the first that applies, in this order. */
+enum bannogwy_refusal {
+    BANNOGWY_SIZES = 1,     /* n, p, h or n x S out of range, or links or functions of the wrong length */
+    BANNOGWY_LINKS = 2,     /* diagonal not 0, or a one-way link */
+    BANNOGWY_TABLE = 3,     /* cost, way or waiting of the wrong length */
+    BANNOGWY_RANGE = 4,     /* node not below n, protocol not below p, height 0 or above h, stack number 0 or above S, step limit above 16,384 */
+    BANNOGWY_NO_MESSAGE = 5,/* deliver: the waiting bit is not set */
+    BANNOGWY_NO_ROUTE = 6,  /* lookup, carry: no row, and not delivered here */
+    BANNOGWY_BROKEN = 7,    /* a table that no run from fresh makes: cost above the ceiling, no such link or function */
+    BANNOGWY_LIMIT = 8,     /* carry: not delivered after the step limit's hops */
+    BANNOGWY_NO_ROOM = 9    /* carry, run: the answer slice is too short. Tested before all the others: nothing is done or written */
+};
+
+/* An answer in one 64-bit number: refused where the top bit is set, and then the low bits are the refusal number. */
+#define BANNOGWY_IS_REFUSED(answer) ((int)((answer) >> 63))
+#define BANNOGWY_REFUSAL(answer) (BANNOGWY_IS_REFUSED(answer) ? (uint32_t)((answer) & 15u) : 0u)
+
+/* Whether a lookup says forward, or first waiting found a message: the bit below the top one. */
+#define BANNOGWY_IS_FOUND(answer) ((int)(((answer) >> 62) & 1u))
+
+#define BANNOGWY_NETWORK size_t n, size_t p, size_t h, const uint16_t *links, size_t links_len, const uint16_t *functions, size_t functions_len
+#define BANNOGWY_TABLE_READ const uint32_t *cost, size_t cost_len, const uint16_t *way, size_t way_len, const uint32_t *waiting, size_t waiting_len
+#define BANNOGWY_TABLE_WRITE uint32_t *cost, size_t cost_len, uint16_t *way, size_t way_len, uint32_t *waiting, size_t waiting_len
+
+/* Writes the fresh table; answers how many messages wait, or a refusal (1, 2, 3). */
+uint64_t bannogwy_fresh(BANNOGWY_NETWORK, BANNOGWY_TABLE_WRITE);
+
+/* How many messages wait, or a refusal (1, 2, 3). */
+uint64_t bannogwy_count(BANNOGWY_NETWORK, BANNOGWY_TABLE_READ);
+
+/* The first message that waits, 0 where none does, or a refusal (1, 2, 3). */
+uint64_t bannogwy_first_waiting(BANNOGWY_NETWORK, BANNOGWY_TABLE_READ);
+#define BANNOGWY_FIRST_SENDER(answer) ((uint32_t)(((answer) >> 56) & 63u))
+#define BANNOGWY_FIRST_RECEIVER(answer) ((uint32_t)(((answer) >> 48) & 255u))
+#define BANNOGWY_FIRST_DESTINATION(answer) ((uint32_t)(((answer) >> 40) & 255u))
+#define BANNOGWY_FIRST_NUMBER(answer) ((uint32_t)((answer) & 0xFFFFFFFFu))
+
+/* Delivers one message; answers how many rows took an offer, or a refusal (1, 2, 3, 4, 5, 7). */
+uint64_t bannogwy_deliver(BANNOGWY_NETWORK, BANNOGWY_TABLE_WRITE, size_t sender, size_t receiver, size_t destination, size_t number);
+
+/* Delivers in table order until quiet or until `limit` are done. answer[0]: deliveries done; answer[1]: rows that took an offer; what stands
+ * behind them stays. Answers 0, or a refusal (1, 2, 3, then both are 0; 9 where answer_len is below 2), or the refusal of a delivery in a broken
+ * table (4, 7), which ends the run: what was delivered before it is kept and counted. */
+uint64_t bannogwy_run(BANNOGWY_NETWORK, BANNOGWY_TABLE_WRITE, uint32_t limit, uint64_t *answer, size_t answer_len);
+
+/* The next hop of a packet at `node` for `destination` with this stack: 0 where it is delivered here, forward, or a refusal (1, 2, 3, 4, 6, 7). */
+uint64_t bannogwy_lookup(BANNOGWY_NETWORK, BANNOGWY_TABLE_READ, size_t node, size_t destination, const uint8_t *stack, size_t stack_len);
+#define BANNOGWY_NEXT_NODE(answer) ((uint32_t)(((answer) >> 56) & 63u))
+#define BANNOGWY_FUNCTION(answer) ((uint32_t)(((answer) >> 48) & 255u))
+#define BANNOGWY_NUMBER(answer) ((uint32_t)(((answer) >> 32) & 0xFFFFu))
+#define BANNOGWY_COST(answer) ((uint32_t)((answer) & 0xFFFFFFFFu))
+
+/* Lookups in turn until delivered or `limit` (0 to 16,384) hops are made. answer[0]: hops; [1]: cost spent; [2]: node reached; [3]: number of
+ * the stack there; what stands behind them stays. Answers 0, or a refusal: 1, 2, 3, 4 (then the four are 0), 6, 7 or 8 (then they say how far it came), 9 (answer_len below 4). */
+uint64_t bannogwy_carry(BANNOGWY_NETWORK, BANNOGWY_TABLE_READ, size_t node, size_t destination, const uint8_t *stack, size_t stack_len, size_t limit, uint64_t *answer, size_t answer_len);
+
+/* The caller's tally of deliver and run: each counter stops at 4,294,967,295. After a delivery add 1 and its rows, or 1 refused call; after a
+ * run its deliveries and their offers, and 1 refused call where it answers a refusal. (In the archive libtally.a.) */
+struct bannogwy_tally {
+    uint32_t deliveries;
+    uint32_t offers;
+    uint32_t refused;
+};
+void bannogwy_tally_add(struct bannogwy_tally *tally, uint64_t deliveries, uint64_t offers, uint32_t refused);
+
+/* The bare stack routines; they have no n, so p = 8 with h = 12 is in range. Each answers a number or refusal 4. */
+uint64_t bannogwy_stack_count(size_t p, size_t h);
+uint64_t bannogwy_number_of(size_t p, size_t h, const uint8_t *stack, size_t stack_len);
+/* writes the stack, bottom to top, to the front of out; answers its height */
+uint64_t bannogwy_stack_of(size_t p, size_t h, size_t number, uint8_t *out, size_t out_len);
+/* the number of the stack that a function makes of the stack with this number; 0 where it is not applicable */
+uint64_t bannogwy_applied(size_t p, size_t h, size_t function, size_t number);
+/* the function that takes back what this one does */
+uint64_t bannogwy_inverse_of(size_t p, size_t function);
+
+#ifdef __cplusplus
+}
+#endif
+
+#endif
