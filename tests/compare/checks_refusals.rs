@@ -237,7 +237,7 @@ fn short(r: &mut Report, seed: u64) -> Outcome {
     while parts.want() == 0 {
         spoil(&mut b.rng, &mut parts);
     }
-    let (mut case, want) = (parts.case(), parts.want());
+    let mut case = parts.case();
     for len in 0..2 {
         let got = case.run(5, len)?;
         no_room(r, got, len, || format!("run with an answer slice of {} and {}", len, parts.label()))?;
