@@ -12,14 +12,20 @@
  *   message about the row waits for neighbour V.
  * Stacks are given bottom to top; a stack's number: start at 0, for each protocol q from the bottom up N becomes p x N + q + 1.
  *
- * What the caller must guarantee: each pointer is valid for the length given with it (elements, not bytes; a length of 0 may go with any
- * pointer), slices that a call writes overlap no other slice of the call, and nobody else writes them meanwhile.
+ * A hop from U to V by a function f of U costs link(U, V) + price(f). A node accepts, as a destination, what it receives: a where it converts a
+ *   to anything or wraps a in anything, b where it unwraps anything from b.
+ * What the caller must guarantee: each pointer is valid for the length given with it (elements, not bytes), and not a null pointer; slices that
+ * a call writes overlap no other slice of the call; while a call runs nobody else writes any of its slices, nor reads one that it writes.
  */
 #ifndef BANNOGWY_H
 #define BANNOGWY_H
 
 #include <stddef.h>
 #include <stdint.h>
+
+#if SIZE_MAX < 0xFFFFFFFFFFFFFFFF
+#error "Bannogwy is 64-bit code: a stack number needs more than 32 bits"
+#endif
 
 #ifdef __cplusplus
 extern "C" {
@@ -33,14 +39,19 @@ enum bannogwy_refusal {
     BANNOGWY_RANGE = 4,     /* node not below n, protocol not below p, height 0 or above h, stack number 0 or above S, step limit above 16,384 */
     BANNOGWY_NO_MESSAGE = 5,/* deliver: the waiting bit is not set */
     BANNOGWY_NO_ROUTE = 6,  /* lookup, carry: no row, and not delivered here */
-    BANNOGWY_BROKEN = 7,    /* a table that no run from fresh makes: cost above the ceiling, no such link or function */
+    BANNOGWY_BROKEN = 7,    /* a table that no run from fresh makes. deliver: the sender's cost above 2,147,303,427 (no row is above it), or no link;
+                               lookup, carry: cost 0 or above 2,147,303,427, or a way that names no node, link, or function that the node has
+                               and that applies to this stack */
     BANNOGWY_LIMIT = 8,     /* carry: not delivered after the step limit's hops */
     BANNOGWY_NO_ROOM = 9    /* carry, run: the answer slice is too short. Tested before all the others: nothing is done or written */
 };
 
 /* An answer in one 64-bit number: refused where the top bit is set, and then the low bits are the refusal number. */
 #define BANNOGWY_IS_REFUSED(answer) ((int)((answer) >> 63))
-#define BANNOGWY_REFUSAL(answer) (BANNOGWY_IS_REFUSED(answer) ? (uint32_t)((answer) & 15u) : 0u)
+static inline uint32_t BANNOGWY_REFUSAL(uint64_t answer)
+{
+    return BANNOGWY_IS_REFUSED(answer) ? (uint32_t)(answer & 15u) : 0u;
+}
 
 /* Whether a lookup says forward, or first waiting found a message: the bit below the top one. */
 #define BANNOGWY_IS_FOUND(answer) ((int)(((answer) >> 62) & 1u))
@@ -70,19 +81,22 @@ uint64_t bannogwy_deliver(BANNOGWY_NETWORK, BANNOGWY_TABLE_WRITE, size_t sender,
  * table (4, 7), which ends the run: what was delivered before it is kept and counted. */
 uint64_t bannogwy_run(BANNOGWY_NETWORK, BANNOGWY_TABLE_WRITE, uint32_t limit, uint64_t *answer, size_t answer_len);
 
-/* The next hop of a packet at `node` for `destination` with this stack: 0 where it is delivered here, forward, or a refusal (1, 2, 3, 4, 6, 7). */
+/* The next hop of a packet at `node` for `destination` with this stack: 0 where it is delivered here (node is destination and the stack is one
+ * protocol that it accepts, whatever the table holds), forward, or a refusal (1, 2, 3, 4, 6, 7). The four parts below mean something only where
+ * BANNOGWY_IS_FOUND says forward: the next node, the function to apply first, the number of the stack after it, and the row's cost. */
 uint64_t bannogwy_lookup(BANNOGWY_NETWORK, BANNOGWY_TABLE_READ, size_t node, size_t destination, const uint8_t *stack, size_t stack_len);
 #define BANNOGWY_NEXT_NODE(answer) ((uint32_t)(((answer) >> 56) & 63u))
 #define BANNOGWY_FUNCTION(answer) ((uint32_t)(((answer) >> 48) & 255u))
 #define BANNOGWY_NUMBER(answer) ((uint32_t)(((answer) >> 32) & 0xFFFFu))
 #define BANNOGWY_COST(answer) ((uint32_t)((answer) & 0xFFFFFFFFu))
 
-/* Lookups in turn until delivered or `limit` (0 to 16,384) hops are made. answer[0]: hops; [1]: cost spent; [2]: node reached; [3]: number of
+/* Lookups in turn until delivered or `limit` (0 to 16,384) hops are made; at each node delivered is tested first, then 6 and 7, then the limit. answer[0]: hops; [1]: cost spent; [2]: node reached; [3]: number of
  * the stack there; what stands behind them stays. Answers 0, or a refusal: 1, 2, 3, 4 (then the four are 0), 6, 7 or 8 (then they say how far it came), 9 (answer_len below 4). */
 uint64_t bannogwy_carry(BANNOGWY_NETWORK, BANNOGWY_TABLE_READ, size_t node, size_t destination, const uint8_t *stack, size_t stack_len, size_t limit, uint64_t *answer, size_t answer_len);
 
 /* The caller's tally of deliver and run: each counter stops at 4,294,967,295. After a delivery add 1 and its rows, or 1 refused call; after a
- * run its deliveries and their offers, and 1 refused call where it answers a refusal. (In the archive libtally.a.) */
+ * run its deliveries and their offers, and 1 refused call where it answers a refusal; after refusal 9 add nothing. `tally` points to one record.
+ * (In the archive libtally.a.) */
 struct bannogwy_tally {
     uint32_t deliveries;
     uint32_t offers;
@@ -90,10 +104,12 @@ struct bannogwy_tally {
 };
 void bannogwy_tally_add(struct bannogwy_tally *tally, uint64_t deliveries, uint64_t offers, uint32_t refused);
 
-/* The bare stack routines; they have no n, so p = 8 with h = 12 is in range. Each answers a number or refusal 4. */
+/* The bare stack routines; they have no n, so p = 8 with h = 12 is in range, and numbers reach 78,536,544,840. Each answers a number, or refusal 4
+ * for p or h out of range, a height or number out of range, a protocol not below p, a function of no kind or with a protocol not below p, or a
+ * buffer too short for the stack. */
 uint64_t bannogwy_stack_count(size_t p, size_t h);
 uint64_t bannogwy_number_of(size_t p, size_t h, const uint8_t *stack, size_t stack_len);
-/* writes the stack, bottom to top, to the front of out; answers its height */
+/* writes the stack, bottom to top, to the front of out, which needs no more room than that; what stands behind it stays; answers its height */
 uint64_t bannogwy_stack_of(size_t p, size_t h, size_t number, uint8_t *out, size_t out_len);
 /* the number of the stack that a function makes of the stack with this number; 0 where it is not applicable */
 uint64_t bannogwy_applied(size_t p, size_t h, size_t function, size_t number);

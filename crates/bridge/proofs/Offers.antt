@@ -19,7 +19,7 @@ use Rattle.table.proofs.Rows.{vertex-node, vertex-number, vertex-below}
 use Rattle.bridge.proofs.Hops.{leader-about}
 use Rattle.bridge.proofs.Weights.{Hops, weight-hop, hop-weight, hop-by}
 use Rattle.bridge.proofs.States.{cost-inside}
-use Rattle.table.proofs.Deliveries.{Goes, told, leaderOf, offerTo, took}
+use Rattle.deliver.proofs.Deliveries.{Goes, told, leaderOf, offerTo, took}
 
 module _ (net : Network) (t : Table) (Q U D N : ℕ) (go : Goes net t Q U D N) where
   -- the vertex that the message is about

@@ -21,7 +21,7 @@ use Rattle.bridge.specs.Bridge.{weightOf, graphOf, rowOf, costOf, waitin
 use Rattle.table.proofs.Rows.{is-vertex, of-vertex, same-row}
 use Rattle.bridge.proofs.Weights.{weight-hop}
 use Rattle.bridge.proofs.States.{cost-inside, cost-outside, next-inside, next-outside, waiting-inside, waiting-outside}
-use Rattle.table.proofs.Deliveries.{Goes, goes, took, Changes, changes, Stays, stays, cleared-row, kept-row}
+use Rattle.deliver.proofs.Deliveries.{Goes, goes, took, Changes, changes, Stays, stays, cleared-row, kept-row}
 use Rattle.bridge.proofs.Offers.{heard-below, heard-row, row-mine, offer-is, takes-took, took-takes, way-leads}
 
 -- no gateway hears a message of its own

@@ -39,7 +39,7 @@ pub extern "C" fn bannogwy_fresh(
         × (tableOf (now (cost .exit)) (now (way .exit)) (now (waiting .exit)) ≡ freshTable (networkOf n p h (now (links .entry)) (now (functions .entry))) (tableOf (now (cost .entry)) (now (way .entry)) (now (waiting .entry))))
         ⌝ }
 {
-    packed_counted(table::fresh(n, p, h, links, functions, cost, way, waiting))
+    packed_counted(fresh::fresh(n, p, h, links, functions, cost, way, waiting))
 }
 
 // How many messages wait.
@@ -104,7 +104,7 @@ pub extern "C" fn bannogwy_deliver(
         × (tableOf (now (cost .exit)) (now (way .exit)) (now (waiting .exit)) ≡ deliverTable (networkOf n p h (now (links .entry)) (now (functions .entry))) (tableOf (now (cost .entry)) (now (way .entry)) (now (waiting .entry))) sender receiver destination number)
         ⌝ }
 {
-    packed_delivered(table::deliver(
+    packed_delivered(deliver::deliver(
         n,
         p,
         h,
@@ -143,7 +143,7 @@ pub extern "C" fn bannogwy_run(
     if answer.len() < 2 {
         return packed_refused(9);
     }
-    let ran = table::run(n, p, h, links, functions, cost, way, waiting, limit);
+    let ran = deliver::run(n, p, h, links, functions, cost, way, waiting, limit);
     answer[0] = ran.done as u64;
     answer[1] = ran.offers;
     packed_end(ran.refused)

@@ -19,7 +19,7 @@ use Rattle.network.proofs.Laws.{neighbours-fits}
 use Rattle.table.specs.Table.{Table, Sized, rowsAll, place, nodeAt, destinationAt, numberAt, homeAt, fresh, cleared, delivered}
 use Rattle.table.specs.Answers.{stepRefusal}
 use Rattle.table.proofs.Rows.{of-place, is-row}
-use Rattle.table.proofs.Deliveries.{goes, took, waiting-there, waiting-here, cleared-row, kept-row}
+use Rattle.deliver.proofs.Deliveries.{goes, took, waiting-there, waiting-here, cleared-row, kept-row}
 use Rattle.promise.specs.Routes.{Reached, begun, delivery}
 use Rattle.promise.proofs.Reaching.{delivery-cases, sized}
 

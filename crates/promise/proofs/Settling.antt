@@ -18,7 +18,7 @@ use Rattle.network.specs.Network.{Network}
 use Rattle.table.specs.Table.{Table, noRow, rowsEach, nodeAt, destinationAt, numberAt, fresh, delivered}
 use Rattle.table.specs.Answers.{stepRefusal}
 use Rattle.table.specs.Run.{Outcome, turn, steps, runOf}
-use Rattle.table.proofs.Deliveries.{goes}
+use Rattle.deliver.proofs.Deliveries.{goes}
 use Rattle.bridge.specs.Bridge.{graphOf, stateOf}
 use Rattle.promise.specs.Routes.{Network16, Reached, begun, Quiet}
 use Rattle.promise.proofs.Reaching.{sized, bridge, reached}

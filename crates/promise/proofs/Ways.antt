@@ -18,7 +18,7 @@ use Rattle.hear.specs.Hearing.{leader}
 use Rattle.table.specs.Table.{Table, Sized, noRow, place, home, gateway, fresh, delivered}
 use Rattle.table.specs.Answers.{stepRefusal}
 use Rattle.table.proofs.Rows.{Stack}
-use Rattle.table.proofs.Deliveries.{Goes, goes, told, leaderOf, offerTo, took, changes, stays}
+use Rattle.deliver.proofs.Deliveries.{Goes, goes, told, leaderOf, offerTo, took, changes, stays}
 use Rattle.bridge.specs.Bridge.{about}
 use Rattle.bridge.proofs.Beginning.{fresh-cost}
 use Rattle.bridge.proofs.Hops.{By, leader-about, leader-by}

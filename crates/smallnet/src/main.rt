@@ -152,7 +152,7 @@ fn main() {
     let mut cost = [0u32; 96];
     let mut way = [0u16; 96];
     let mut waiting = [0u32; 96];
-    table::fresh(
+    fresh::fresh(
         4,
         2,
         2,
@@ -162,7 +162,7 @@ fn main() {
         &mut way,
         &mut waiting,
     );
-    table::run(
+    deliver::run(
         4,
         2,
         2,

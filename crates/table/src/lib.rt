@@ -2,23 +2,14 @@
 ghost use mathlib.Core.Path.{_≡_};
 ghost use Rattle.network.specs.Network.{networkOf};
 ghost use Rattle.table.specs.Table.{tableOf};
-ghost use Rattle.table.specs.Answers.{countAnswer, deliverAnswer, deliverTable, firstAnswer, freshAnswer, freshTable};
-ghost use Rattle.table.specs.Run.{Runs, runOf};
+ghost use Rattle.table.specs.Answers.{countAnswer, firstAnswer};
 
-mod homes;
 pub mod ready;
 mod search;
-mod step;
-mod turns;
 
-use homes::all_homes;
-use homes::fill_ways;
-use homes::fill_words;
 use network::Checked;
 use ready::ready;
 use search::search;
-use step::step;
-use turns::runs;
 use words::Found;
 
 // How many messages wait, or the refusal's number.
@@ -45,44 +36,6 @@ pub struct Ran {
     pub done: u32,
     pub offers: u64,
     pub refused: u32,
-}
-
-// The table before any message is delivered; answers how many wait.
-pub fn fresh(
-    n: usize,
-    p: usize,
-    h: usize,
-    links: &[u16],
-    functions: &[u16],
-    cost: &mut [u32],
-    way: &mut [u16],
-    waiting: &mut [u32],
-) -> Counted
-    ensures { λ r.
-        ⌜
-        (r ≡ freshAnswer (networkOf n p h (now (links .entry)) (now (functions .entry))) (tableOf (now (cost .entry)) (now (way .entry)) (now (waiting .entry))))
-        × (tableOf (now (cost .exit)) (now (way .exit)) (now (waiting .exit)) ≡ freshTable (networkOf n p h (now (links .entry)) (now (functions .entry))) (tableOf (now (cost .entry)) (now (way .entry)) (now (waiting .entry))))
-        ⌝ }
-{
-    match ready(
-        n,
-        p,
-        h,
-        links,
-        functions,
-        cost.len(),
-        way.len(),
-        waiting.len(),
-    ) {
-        Checked::Stacks(stacks) => {
-            fill_words(cost, 4294967295);
-            fill_ways(way, 65535);
-            fill_words(waiting, 0);
-            all_homes(n, p, stacks, links, functions, cost, waiting);
-            Counted::Messages(words::ones_in(waiting))
-        }
-        Checked::Refused(refusal) => Counted::Refused(refusal),
-    }
 }
 
 // How many messages wait in the whole table.
@@ -152,103 +105,5 @@ pub fn first_waiting(
             Found::Nowhere => First::Quiet,
         },
         Checked::Refused(refusal) => First::Refused(refusal),
-    }
-}
-
-// One waiting message is delivered: the sender's bit is cleared, and the receiver's rows take the offers that are cheaper.
-pub fn deliver(
-    n: usize,
-    p: usize,
-    h: usize,
-    links: &[u16],
-    functions: &[u16],
-    cost: &mut [u32],
-    way: &mut [u16],
-    waiting: &mut [u32],
-    sender: usize,
-    receiver: usize,
-    destination: usize,
-    number: usize,
-) -> Delivered
-    ensures { λ r.
-        ⌜
-        (r ≡ deliverAnswer (networkOf n p h (now (links .entry)) (now (functions .entry))) (tableOf (now (cost .entry)) (now (way .entry)) (now (waiting .entry))) sender receiver destination number)
-        × (tableOf (now (cost .exit)) (now (way .exit)) (now (waiting .exit)) ≡ deliverTable (networkOf n p h (now (links .entry)) (now (functions .entry))) (tableOf (now (cost .entry)) (now (way .entry)) (now (waiting .entry))) sender receiver destination number)
-        ⌝ }
-{
-    match ready(
-        n,
-        p,
-        h,
-        links,
-        functions,
-        cost.len(),
-        way.len(),
-        waiting.len(),
-    ) {
-        Checked::Stacks(stacks) => step(
-            n,
-            p,
-            h,
-            stacks,
-            links,
-            functions,
-            cost,
-            way,
-            waiting,
-            sender,
-            receiver,
-            destination,
-            number,
-        ),
-        Checked::Refused(refusal) => Delivered::Refused(refusal),
-    }
-}
-
-// Delivers the first waiting message, again and again, until none waits, a delivery is refused, or `limit` are done.
-pub fn run(
-    n: usize,
-    p: usize,
-    h: usize,
-    links: &[u16],
-    functions: &[u16],
-    cost: &mut [u32],
-    way: &mut [u16],
-    waiting: &mut [u32],
-    limit: u32,
-) -> Ran
-    ensures { λ r.
-        ⌜
-        Runs (runOf (networkOf n p h (now (links .entry)) (now (functions .entry))) limit (tableOf (now (cost .entry)) (now (way .entry)) (now (waiting .entry))))
-        r (tableOf (now (cost .exit)) (now (way .exit)) (now (waiting .exit)))
-        ⌝ }
-{
-    match ready(
-        n,
-        p,
-        h,
-        links,
-        functions,
-        cost.len(),
-        way.len(),
-        waiting.len(),
-    ) {
-        Checked::Stacks(stacks) => runs(
-            n,
-            p,
-            h,
-            stacks,
-            links,
-            functions,
-            cost,
-            way,
-            waiting,
-            limit,
-        ),
-        Checked::Refused(refusal) => Ran {
-            done: 0,
-            offers: 0,
-            refused: refusal,
-        },
     }
 }

@@ -1,0 +1,70 @@
+-- `deliver::deliver` meets its contract.
+use mathlib.Core.Path.{sym, _∙_}
+use denote.Ref.{now}
+use borrow.Author.Needs.{needs}
+use Rattle.network.specs.Network.{Network, networkOf}
+use Rattle.table.specs.Table.{Table, tableOf}
+use Rattle.table.proofs.Begins.{Ready, is-ready, is-refused}
+use Rattle.deliver.proofs.StepTests.{prepared, delivers-so, not-begun}
+use Rattle.deliver.proofs.deliver.Statement.{statement}
+use Rattle.deliver.proofs.deliver.Tie as tie
+
+abbrev net : tie.Start → Network
+net s = let a = s .args in networkOf (a .n) (a .p) (a .h) (now (a .links)) (now (a .functions))
+
+abbrev tab : tie.Start → Table
+tab s = let a = s .args in tableOf (now (a .cost)) (now (a .way)) (now (a .waiting))
+
+right : (c : tie.After-stacks) → Ready (net (c .before .before .before .before .before .before .before .before)) (tab (c .before .before .before .before .before .before .before .before)) (c .stacks .given .0 .0)
+right c = let s = c .before .before .before .before .before .before .before .before in is-ready (net s) (tab s) (c .stacks .given .0 .0) (sym (c .before .before .ready .ensures) ∙ c .stacks .given .1)
+
+ready-requires : tie.Need-ready-requires
+ready-requires c κs = search needs
+
+enum-known-stacks : tie.Need-enum-known-stacks
+enum-known-stacks c = search needs
+
+step-requires : tie.Need-step-requires
+step-requires c κs =
+    let s = c .before .before .before .before .before .before .before .before .before .before .before .before in
+    prepared (net s) (tab s) (c .before .before .before .before .stacks .given .0 .0) (right (c .before .before .before .before))
+
+enum-known-refusal : tie.Need-enum-known-refusal
+enum-known-refusal c = search needs
+
+same-length : tie.Need-same-length
+same-length c = search needs
+
+same-length-2 : tie.Need-same-length-2
+same-length-2 c = search needs
+
+same-length-3 : tie.Need-same-length-3
+same-length-3 c = search needs
+
+returns : tie.Need-returns
+returns c =
+    let s = c .before .before .before .before .before .before .before .before .before .before .before .before .before .before .before .before .before .before .before in
+    let a = s .args in
+    delivers-so (net s) (tab s) (a .sender) (a .receiver) (a .destination) (a .number) (c .before .before .before .before .before .before .before .before .before .before .before .stacks .given .0 .0) (c .before .before .before .before .before .before .step .result)
+    (tableOf (c .before .before .before .before .before .before .step .last .1 .1 .1 .1 .1 .1 .0) (c .before .before .before .before .before .before .step .last .1 .1 .1 .1 .1 .1 .1 .0) (c .before .before .before .before .before .before .step .last .1 .1 .1 .1 .1 .1 .1 .1 .0)) (right (c .before .before .before .before .before .before .before .before .before .before .before)) (c .before .before .before .before .before .before .step .ensures)
+
+returns-2 : tie.Need-returns-2
+returns-2 c =
+    let s = c .before .before .before .before .before .before .before .before .before in
+    let a = s .args in
+    not-begun (net s) (tab s) (a .sender) (a .receiver) (a .destination) (a .number) (c .before .refusal .given .0 .0)
+    (is-refused (net s) (tab s) (c .before .refusal .given .0 .0) (sym (c .before .before .before .ready .ensures) ∙ c .before .refusal .given .1))
+
+pub deliver-spec : {M : Type 1} → statement M
+deliver-spec =
+    tie.close
+    (tie.spec
+    ready-requires
+    enum-known-stacks
+    step-requires
+    enum-known-refusal
+    same-length
+    same-length-2
+    same-length-3
+    returns
+    returns-2)

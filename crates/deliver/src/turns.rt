@@ -1,0 +1,163 @@
+// The turns of a run, in a network and a table that `ready` found right.
+ghost use mathlib.Core.Path.{_≡_};
+ghost use mathlib.Core.Bool.{true};
+ghost use Prim.Native.Nat.{ℕ, _≤_, _<_};
+ghost use lib.ListN.{length};
+ghost use Rattle.words.specs.Words.{wordOf};
+ghost use Rattle.network.specs.Network.{networkOf};
+ghost use Rattle.table.specs.Table.{tableOf};
+ghost use Rattle.table.specs.Run.{Runs, steps};
+ghost use Rattle.deliver.specs.Flags.{Flagged};
+ghost use Rattle.deliver.specs.Steps.{Prepared};
+ghost use Rattle.deliver.specs.Turns.{Turned, flagsAfter};
+use crate::search::search_flagged;
+use crate::step::step;
+use table::Delivered;
+use table::Ran;
+use words::Found;
+
+// What one turn did: how many rows took an offer, nothing since no message waits, or the refusal's number.
+pub(crate) enum Turn {
+    Offers(usize),
+    Quiet,
+    Refused(u32),
+}
+
+// The flag of the receiver's block, where a row of it took an offer.
+fn flag_block(flags: &mut [u32], receiver: usize, destination: usize, offers: usize)
+    requires { ⌜ receiver < length (now flags) ⌝ }
+    ensures { λ _. ⌜ now (flags .exit) ≡ flagsAfter (now (flags .entry)) receiver destination offers ⌝ }
+{
+    if 0 < offers {
+        flags[receiver] = words::with_one(flags[receiver], destination);
+    }
+}
+
+// First waiting and then deliver, once. The flags say which blocks of rows may hold a message.
+fn take_turn(
+    n: usize,
+    p: usize,
+    h: usize,
+    stacks: usize,
+    links: &[u16],
+    functions: &[u16],
+    cost: &mut [u32],
+    way: &mut [u16],
+    waiting: &mut [u32],
+    flags: &mut [u32],
+) -> Turn
+    requires { ⌜ Prepared (networkOf n p h (now links) (now functions)) stacks (length (now cost)) (length (now way)) (length (now waiting)) ⌝ }
+    requires { ⌜ Flagged n stacks (now flags) (now waiting) ⌝ }
+    ensures { λ r.
+        ⌜
+        Turned (networkOf n p h (now (links .entry)) (now (functions .entry))) stacks (tableOf (now (cost .entry)) (now (way .entry)) (now (waiting .entry)))
+        r (tableOf (now (cost .exit)) (now (way .exit)) (now (waiting .exit))) (now (flags .exit))
+        ⌝ }
+{
+    match search_flagged(n, stacks, flags, &waiting[..]) {
+        Found::At(at, receiver) => {
+            let sender = at / stacks / n;
+            let destination = at / stacks % n;
+            let number = at % stacks + 1;
+            match step(
+                n,
+                p,
+                h,
+                stacks,
+                links,
+                functions,
+                cost,
+                way,
+                waiting,
+                sender,
+                receiver,
+                destination,
+                number,
+            ) {
+                Delivered::Rows(offers) => {
+                    flag_block(flags, receiver, destination, offers);
+                    Turn::Offers(offers)
+                }
+                Delivered::Refused(refusal) => Turn::Refused(refusal),
+            }
+        }
+        Found::Nowhere => Turn::Quiet,
+    }
+}
+
+// The flags of one node, all of them set.
+fn all_flags(n: usize) -> u32
+    requires { ⌜ n ≤ 32 ⌝ }
+    ensures { λ r. ⌜ r ≡ wordOf n (λ (d : ℕ). true) ⌝ }
+{
+    let mut word: u32 = 0;
+    let mut d: usize = 0;
+    while d < n {
+        word = words::with_one(word, d);
+        d += 1;
+    }
+    word
+}
+
+// Turns until quiet, until one is refused, or until `limit` are done.
+pub(crate) fn runs(
+    n: usize,
+    p: usize,
+    h: usize,
+    stacks: usize,
+    links: &[u16],
+    functions: &[u16],
+    cost: &mut [u32],
+    way: &mut [u16],
+    waiting: &mut [u32],
+    limit: u32,
+) -> Ran
+    requires { ⌜ Prepared (networkOf n p h (now links) (now functions)) stacks (length (now cost)) (length (now way)) (length (now waiting)) ⌝ }
+    ensures { λ r.
+        ⌜
+        Runs (steps (networkOf n p h (now (links .entry)) (now (functions .entry))) limit (tableOf (now (cost .entry)) (now (way .entry)) (now (waiting .entry))))
+        r (tableOf (now (cost .exit)) (now (way .exit)) (now (waiting .exit)))
+        ⌝ }
+{
+    let mut flags = [all_flags(n); 32];
+    let mut done: u32 = 0;
+    let mut offers: u64 = 0;
+    while done < limit {
+        match take_turn(
+            n,
+            p,
+            h,
+            stacks,
+            links,
+            functions,
+            cost,
+            way,
+            waiting,
+            &mut flags,
+        ) {
+            Turn::Offers(taken) => {
+                offers += taken as u64;
+            }
+            Turn::Quiet => {
+                return Ran {
+                    done,
+                    offers,
+                    refused: 0,
+                };
+            }
+            Turn::Refused(refusal) => {
+                return Ran {
+                    done,
+                    offers,
+                    refused: refusal,
+                };
+            }
+        }
+        done += 1;
+    }
+    Ran {
+        done,
+        offers,
+        refused: 0,
+    }
+}

@@ -1,0 +1,2 @@
+pub mod HomePlaces
+pub mod Starts
