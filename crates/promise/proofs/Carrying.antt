@@ -1,4 +1,4 @@
--- DEMAND 3: a packet whose lookup shows cost c is carried on to its destination for at most c, with any deliveries between the hops.
+-- DEMAND 3: a packet whose lookup shows cost c is carried on to its destination for at most c, with any deliveries between the hops and before the first.
 use Prim.Native.Nat.{ℕ, zero, suc, _-_, _≤_, _<_}
 use native.Mathlib.Omega.{arith}
 use mathlib.Core.Path.{_≡_, sym, ap, ap₂, _∙_, subst}
@@ -87,13 +87,15 @@ module _ (net : Network) (ok : Network16 net) (D : ℕ) (d : D < net .n) where
           let g = goes-on net ok t r U D (number (net .p) stack) (away-row net ok t r U D stack k e) (λ (z : costOf net t U D (number (net .p) stack) ≡ noRow). omega arith) in
           omega (arith, g .pays, g .some)
 
--- what is shown, carries
-pub carried-on : (net : Network) → Network16 net → (t : Table) (U D W f M c : ℕ) (stack : List ℕ) → Reached net t
-    → lookupOf net t U D stack ≡ Look.Forward W f M c → Carried net D t U stack c
-carried-on net ok t U D W f M c stack r e =
+-- what is shown, carries, in every later table
+pub carried-on : (net : Network) → Network16 net → (t u : Table) (U D W f M c : ℕ) (stack : List ℕ) → Reached net t
+    → lookupOf net t U D stack ≡ Look.Forward W f M c → Later net t u → Carried net D u U stack c
+carried-on net ok t u U D W f M c stack r e l =
     let s = shown net t U D W f M c stack e in
     let d = s .asked .destination in
     let N = number (net .p) stack in
+    let n = numbered net ok stack (s .asked .stack-ok) in
     let top = below-noRow (graphOf net D) (bridge net ok D d .lawful) (reached net ok D d r) (vertex net U N) in
-    carried-within net ok D d (suc c) t r U c stack (s .asked) (omega arith) (omega (arith, s .cost))
-    (omega (arith, s .priced, s .cost, top, cost-is net U D N (s .asked .node) (numbered net ok stack (s .asked .stack-ok)) t))
+    carried-within net ok D d (suc c) u (reached-later net r l) U c stack (s .asked) (omega arith)
+    (omega (arith, s .cost, cost-falls net ok D d r l U N (s .asked .node) n))
+    (omega (arith, s .priced, s .cost, top, cost-is net U D N (s .asked .node) n t))

@@ -31,10 +31,10 @@ abbrev pub OneBoth : {A B : Type 0} → (A → B → Type 0) → Type 0
 OneBoth {A} {B} Allows = (x y : A) (u v : B) → Allows x u → Allows y v → (x ≡ y) × (u ≡ v)
 
 -- THE LAW: a contract that is an equation with a definition allows one outcome
-one : {A : Type 0} (d : A) → One (λ x. x ≡ d)
+pub one : {A : Type 0} (d : A) → One (λ x. x ≡ d)
 one d x y p q = p ∙ sym q
 
-both : {A B : Type 0} (d : A) (e : B) → OneBoth (λ x u. (x ≡ d) × (u ≡ e))
+pub both : {A B : Type 0} (d : A) (e : B) → OneBoth (λ x u. (x ≡ d) × (u ≡ e))
 both d e x y u v p q = (p .0 ∙ sym (q .0), p .1 ∙ sym (q .1))
 
 -- ---- stacks

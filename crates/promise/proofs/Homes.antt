@@ -16,7 +16,7 @@ use Rattle.table.specs.Table.{home}
 use Rattle.promise.specs.Routes.{Network16}
 
 -- the stack of one protocol x has number x + 1
-number-one : (p x : ℕ) → number p (x ∷ []) ≡ x + 1
+pub number-one : (p x : ℕ) → number p (x ∷ []) ≡ x + 1
 number-one p x = omega arith
 
 module _ (net : Network) (ok : Network16 net) where

@@ -30,10 +30,10 @@ use Rattle.promise.proofs.Looking.{packet, numbered}
 
 -- ---- how many rows for the destination D cost at most c
 module _ (net : Network) (t : Table) (D : ℕ) where
-  rank : ℕ → ℕ
+  pub rank : ℕ → ℕ
   rank c = sum (rowsEach net) (λ v. bit (leb (bridged.costOf net D t v) c))
 
-  rank-most : (c : ℕ) → rank c ≤ rowsEach net
+  pub rank-most : (c : ℕ) → rank c ≤ rowsEach net
   unfolding rank
   rank-most c = omega (arith, sum-most (rowsEach net) 1 _ (λ v. bit-one (leb (bridged.costOf net D t v) c)))
 
@@ -49,10 +49,10 @@ module _ (net : Network) (t : Table) (D : ℕ) where
 module _ (net : Network) (ok : Network16 net) (t : Table) (r : Reached net t) (D : ℕ) (d : D < net .n) where
   -- ---- what a node does with a packet whose stack has number N
   module _ (U N : ℕ) (u : U < net .n) (n : Stack net N) where
-    away-row : home net U D N ≡ false → Away net U D N
+    pub away-row : home net U D N ≡ false → Away net U D N
     away-row e = record { node = u; destination = d; stack = n; away = e }
 
-    looks-home : home net U D N ≡ true → lookAt net t U D N ≡ Look.Delivered
+    pub looks-home : home net U D N ≡ true → lookAt net t U D N ≡ Look.Delivered
     unfolding lookAt
     looks-home e = simp e
 
@@ -60,13 +60,13 @@ module _ (net : Network) (ok : Network16 net) (t : Table) (r : Reached net t) (D
     unfolding lookAt
     looks-none e c = simp (e, eq-eqb (costOf net t U D N) noRow c)
 
-    looks-on : home net U D N ≡ false → costOf net t U D N ≢ noRow
+    pub looks-on : home net U D N ≡ false → costOf net t U D N ≢ noRow
         → lookAt net t U D N ≡ Look.Forward (nextOf net t U D N) (functionOf net t U D N) (resultOf net t U D N) (costOf net t U D N)
     unfolding lookAt
     looks-on e c = simp (e, ne-eqb (costOf net t U D N) noRow c, row-ok net ok t r U D N (away-row e) c)
 
     -- each hop leads to a row that fewer rows are as cheap as
-    rank-falls : home net U D N ≡ false → costOf net t U D N ≢ noRow
+    pub rank-falls : home net U D N ≡ false → costOf net t U D N ≢ noRow
         → rank net t D (costOf net t (nextOf net t U D N) D (resultOf net t U D N)) < rank net t D (costOf net t U D N)
     rank-falls e c =
         let g = goes-on net ok t r U D N (away-row e) c in

@@ -53,7 +53,7 @@ module _ (net : Network) (ok : Network16 net) where
     same-cost : stateOf net D t .cost v ≡ costOf net t U D (number (net .p) stack)
     same-cost = cost-is net U D (number (net .p) stack) (k .node) (numbered net ok stack (k .stack-ok)) t
 
-    none : (costOf net t U D (number (net .p) stack) ≡ noRow) ↔ ((cost : ℕ) → ¬ Route net D U stack cost)
+    pub none : (costOf net t U D (number (net .p) stack) ≡ noRow) ↔ ((cost : ℕ) → ¬ Route net D U stack cost)
     none =
         let l = lost (graphOf net D) (bridge net ok D (k .destination) .lawful) (reached net ok D (k .destination) r) (quiet net ok D (k .destination) t r q) v in (
           λ e cost p. l .0 (same-cost ∙ e) cost (route-there net ok D (k .destination) p),

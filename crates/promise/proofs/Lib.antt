@@ -10,9 +10,12 @@ pub mod Routing
 pub mod Least
 pub mod Examples
 pub mod Coincide
+pub mod CoincideExported
 pub mod Fitting
 pub mod Running
 pub mod Settling
 pub mod Rounds
 pub mod Hopping
+pub mod Telling
+pub mod Arriving
 pub mod Kept

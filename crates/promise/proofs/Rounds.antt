@@ -5,17 +5,16 @@ use native.Mathlib.Omega.{arith}
 use mathlib.Core.Path.{_≡_, refl, sym, ap, _∙_, subst}
 use mathlib.Core.List.{List, [], _∷_}
 use borrow.Author.Tests.{eq-eqb}
-use Rattle.relax.specs.Journeys.{bound}
 use Rattle.words.specs.Words.{firstIn}
 use Rattle.words.specs.declared.Found.{Found}
 use Rattle.network.specs.Network.{Network}
-use Rattle.table.specs.Table.{Table, rowsEach, nodeAt, destinationAt, numberAt, delivered}
+use Rattle.table.specs.Table.{Table, nodeAt, destinationAt, numberAt, delivered}
 use Rattle.table.specs.Answers.{stepRefusal}
 use Rattle.table.specs.Run.{Outcome, turn, steps, runOf}
-use Rattle.promise.specs.Routes.{Network16, Reached, Quiet}
+use Rattle.promise.specs.Routes.{Network16, Reached, mostDeliveries, Quiet}
 use Rattle.promise.proofs.Fitting.{nowhere-quiet}
 use Rattle.promise.proofs.Running.{made, run-steps, run-reached, found-goes}
-use Rattle.promise.proofs.Settling.{settles-from}
+use Rattle.promise.proofs.Settling.{settles}
 
 -- calls of run in a row, with these limits, and the limits together
 abbrev pub rounds : Network → List ℕ → Table → Table
@@ -85,5 +84,5 @@ module _ (net : Network) (ok : Network16 net) where
   rounds-are [] t r = sym (ap (λ (o : Outcome). o .table) (run-steps net ok t 0 r))
   rounds-are (k ∷ limits) t r = rounds-are limits (runOf net k t .table) (run-reached net ok t k r) ∙ run-again t k (together limits) r
 
-  pub rounds-settle : (t : Table) (limits : List ℕ) → Reached net t → net .n * bound (rowsEach net) (net .n) < together limits → Quiet net (rounds net limits t)
-  rounds-settle t limits r h = subst (Quiet net) (sym (rounds-are limits t r)) (settles-from net ok t (together limits) r h)
+  pub rounds-settle : (t : Table) (limits : List ℕ) → Reached net t → mostDeliveries net < together limits → Quiet net (rounds net limits t)
+  rounds-settle t limits r h = subst (Quiet net) (sym (rounds-are limits t r)) (settles net ok t (together limits) r h)

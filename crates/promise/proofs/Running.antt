@@ -1,4 +1,4 @@
--- A run's table can come to be, and no turn of a run from such a table is refused.
+-- A run is more deliveries, so that its table can come to be, and no turn of a run from such a table is refused.
 use Prim.Native.Nat.{ℕ, zero, suc, _≤_, _<_, min}
 use native.Mathlib.Omega.{arith}
 use mathlib.Core.Path.{_≡_, refl, sym, ap, ap₂, _∙_, subst}
@@ -21,42 +21,55 @@ use Rattle.table.specs.Run.{Outcome, after, ends, turn, steps, runOf}
 use Rattle.table.proofs.Rows.{Stack, Row, is-row, of-place, vertex-node, vertex-below}
 use Rattle.bridge.specs.Bridge.{graphOf, stateOf}
 use Rattle.bridge.proofs.States.{waiting-inside}
-use Rattle.promise.specs.Routes.{Network16, Reached, delivery}
-use Rattle.promise.proofs.Reaching.{sized, reached-refusal, bridge, reached}
+use Rattle.promise.specs.Routes.{Network16, Reached, Later, now, delivery}
+use Rattle.promise.proofs.Reaching.{sized, reached-refusal, reached-later, bridge, reached}
 use Rattle.promise.proofs.Onward.{row-is, cost-is, cost-most}
 use Rattle.promise.proofs.Fitting.{words-fit}
 
 module _ (net : Network) (ok : Network16 net) where
   -- ---- a delivery that is not refused is what `deliver` leaves
-  pub made : (t : Table) (Q U D N : ℕ) → Reached net t → stepRefusal net t Q U D N ≡ 0 → Reached net (delivered net t Q U D N)
+  pub through : (t : Table) (Q U D N : ℕ) → Reached net t → stepRefusal net t Q U D N ≡ 0 → deliverTable net t Q U D N ≡ delivered net t Q U D N
   unfolding deliverTable deliverRefusal
-  made t Q U D N r e = subst (Reached net) through (delivery Q U D N r)
-    where
-      through : deliverTable net t Q U D N ≡ delivered net t Q U D N
-      through = simp (eq-eqb (refusal net t) 0 (reached-refusal net ok r), eq-eqb (stepRefusal net t Q U D N) 0 e)
+  through t Q U D N r e = simp (eq-eqb (refusal net t) 0 (reached-refusal net ok r), eq-eqb (stepRefusal net t Q U D N) 0 e)
 
-  -- ---- so a run's table can come to be
-  turn-reached : (rest : Table → Outcome) → ((u : Table) → Reached net u → Reached net (rest u .table)) → (t : Table) → Reached net t
-      → (f : Found) → Reached net (turn net rest t f .table)
-  turn-reached rest on t r Found.Nowhere = r
-  turn-reached rest on t r (Found.At i U) = go (eqb (stepRefusal net t (nodeAt net i) U (destinationAt net i) (numberAt net i)) 0) refl
-    where
-      go : (b : Bool) → eqb (stepRefusal net t (nodeAt net i) U (destinationAt net i) (numberAt net i)) 0 ≡ b
-          → Reached net (cond b (after (offersTaken net t (nodeAt net i) U (destinationAt net i) (numberAt net i)) (rest (delivered net t (nodeAt net i) U (destinationAt net i) (numberAt net i))))
-          (ends (stepRefusal net t (nodeAt net i) U (destinationAt net i) (numberAt net i)) t) .table)
-      go true z = on _ (made t (nodeAt net i) U (destinationAt net i) (numberAt net i) r (eqb-true (stepRefusal net t (nodeAt net i) U (destinationAt net i) (numberAt net i)) 0 z))
-      go false z = r
+  pub made : (t : Table) (Q U D N : ℕ) → Reached net t → stepRefusal net t Q U D N ≡ 0 → Reached net (delivered net t Q U D N)
+  made t Q U D N r e = subst (Reached net) (through t Q U D N r e) (delivery Q U D N r)
 
-  steps-reached : (k : ℕ) (t : Table) → Reached net t → Reached net (steps net k t .table)
-  steps-reached zero t r = r
-  steps-reached (suc k) t r = turn-reached (steps net k) (λ u q. steps-reached k u q) t r (firstIn (t .waiting))
+  -- ---- so a run from t, or from a table s after it, is more deliveries
+  module _ (t : Table) (r : Reached net t) where
+    turn-later : (rest : Table → Outcome) → ((s : Table) → Later net t s → Later net t (rest s .table)) → (s : Table) → Later net t s
+        → (f : Found) → Later net t (turn net rest s f .table)
+    turn-later rest on s l Found.Nowhere = l
+    turn-later rest on s l (Found.At i U) = go (eqb (stepRefusal net s Q U D N) 0) refl
+      where
+        Q : ℕ
+        Q = nodeAt net i
+
+        D : ℕ
+        D = destinationAt net i
+
+        N : ℕ
+        N = numberAt net i
+
+        go : (b : Bool) → eqb (stepRefusal net s Q U D N) 0 ≡ b
+            → Later net t (cond b (after (offersTaken net s Q U D N) (rest (delivered net s Q U D N))) (ends (stepRefusal net s Q U D N) s) .table)
+        go true z = on _ (subst (Later net t) (through s Q U D N (reached-later net r l) (eqb-true (stepRefusal net s Q U D N) 0 z)) (delivery Q U D N l))
+        go false z = l
+
+    steps-later : (k : ℕ) (s : Table) → Later net t s → Later net t (steps net k s .table)
+    steps-later zero s l = l
+    steps-later (suc k) s l = turn-later (steps net k) (λ u m. steps-later k u m) s l (firstIn (s .waiting))
 
   pub run-steps : (t : Table) (k : ℕ) → Reached net t → runOf net k t ≡ steps net k t
   unfolding runOf
   run-steps t k r = simp (eq-eqb (refusal net t) 0 (reached-refusal net ok r))
 
+  pub run-later : (t : Table) (k : ℕ) → Reached net t → Later net t (runOf net k t .table)
+  run-later t k r = subst (λ (o : Outcome). Later net t (o .table)) (sym (run-steps t k r)) (steps-later t r k t now)
+
+  -- and so its table can come to be
   pub run-reached : (t : Table) (k : ℕ) → Reached net t → Reached net (runOf net k t .table)
-  run-reached t k r = subst (λ (o : Outcome). Reached net (o .table)) (sym (run-steps t k r)) (steps-reached k t r)
+  run-reached t k r = reached-later net r (run-later t k r)
 
   -- ---- a message that waits is delivered
   module _ (t : Table) (r : Reached net t) (Q D N U : ℕ) (q : Q < net .n) (d : D < net .n) (n : Stack net N)

@@ -1,4 +1,4 @@
--- A run that is long enough leaves no message waiting: every delivery lowers the theory's measure for its destination and leaves the others'.
+-- Deliveries end, and a run that is long enough leaves no message waiting: every delivery lowers the theory's measure for its destination and leaves the others'.
 use Prim.Native.Nat.{ℕ, zero, suc, _+_, _*_, _≤_, _<_}
 use native.Mathlib.Decide.{ℕ-discrete, decLt}
 use native.Mathlib.Nat.{le-of-lt}
@@ -15,15 +15,15 @@ use Rattle.relax.proofs.Ends.{measure-falls, fresh-measure}
 use Rattle.words.specs.Words.{firstIn}
 use Rattle.words.specs.declared.Found.{Found}
 use Rattle.network.specs.Network.{Network}
-use Rattle.table.specs.Table.{Table, noRow, rowsEach, nodeAt, destinationAt, numberAt, fresh, delivered}
-use Rattle.table.specs.Answers.{stepRefusal}
+use Rattle.table.specs.Table.{Table, rowsEach, nodeAt, destinationAt, numberAt, fresh, delivered}
+use Rattle.table.specs.Answers.{refusal, stepRefusal, deliverRefusal}
 use Rattle.table.specs.Run.{Outcome, turn, steps, runOf}
 use Rattle.deliver.proofs.Deliveries.{goes}
 use Rattle.bridge.specs.Bridge.{graphOf, stateOf}
-use Rattle.promise.specs.Routes.{Network16, Reached, begun, Quiet}
-use Rattle.promise.proofs.Reaching.{sized, bridge, reached}
+use Rattle.promise.specs.Routes.{Network16, Reached, Done, begun, delivery, mostDeliveries, Quiet}
+use Rattle.promise.proofs.Reaching.{sized, bridge, reached, reached-refusal}
 use Rattle.promise.proofs.Fitting.{nowhere-quiet}
-use Rattle.promise.proofs.Running.{made, run-steps, found-goes}
+use Rattle.promise.proofs.Running.{through, made, run-steps, found-goes}
 
 module _ (net : Network) where
   -- the measure for a destination, 0 for a number that is no node, and the measure for all destinations
@@ -97,9 +97,24 @@ module _ (net : Network) where
     steps-settle zero t r h = absurd (omega arith)
     steps-settle (suc k) t r h = turn-settles (steps net k) k (λ u q l. steps-settle k u q l) t r h (firstIn (t .waiting)) refl
 
-    -- from any table that can come to be, and so from the fresh one
-    pub settles-from : (t : Table) (k : ℕ) → Reached net t → net .n * bound (rowsEach net) (net .n) < k → Quiet net (runOf net k t .table)
-    settles-from t k r h = subst (λ (o : Outcome). Quiet net (o .table)) (sym (run-steps net ok t k r)) (steps-settle k t r (omega (arith, total-most r)))
+    pub settles : (t : Table) (k : ℕ) → Reached net t → mostDeliveries net < k → Quiet net (runOf net k t .table)
+    settles t k r h = subst (λ (o : Outcome). Quiet net (o .table)) (sym (run-steps net ok t k r)) (steps-settle k t r (omega (arith, total-most r)))
 
-    pub settles : (k : ℕ) → net .n * (rowsEach net * noRow * suc (rowsEach net * net .n) + rowsEach net * net .n) < k → Quiet net (runOf net k (fresh net) .table)
-    settles k h = settles-from (fresh net) k begun h
+    -- ---- deliveries in any order: each has lowered the measure
+    done-reached : {k : ℕ} {t : Table} → Done net k t → Reached net t
+    done-reached begun = begun
+    done-reached (delivery Q U D N d e) = delivery Q U D N (done-reached d)
+
+    step-goes : {t : Table} → Reached net t → (Q U D N : ℕ) → deliverRefusal net t Q U D N ≡ 0 → stepRefusal net t Q U D N ≡ 0
+    unfolding deliverRefusal
+    step-goes {t} r Q U D N e = let same : deliverRefusal net t Q U D N ≡ stepRefusal net t Q U D N = simp (eq-eqb (refusal net t) 0 (reached-refusal net ok r)) in sym same ∙ e
+
+    paid : {k : ℕ} {t : Table} → Done net k t → k + total t ≤ total (fresh net)
+    paid begun = omega arith
+    paid (delivery {k} {t} Q U D N d e) =
+        let r = done-reached d in
+        let z = step-goes r Q U D N e in
+        subst (λ (u : Table). suc k + total u ≤ total (fresh net)) (sym (through net ok t Q U D N r z)) (omega (arith, paid d, total-falls r Q U D N z))
+
+    pub ends : (k : ℕ) (t : Table) → Done net k t → k ≤ mostDeliveries net
+    ends k t d = omega (arith, paid d, total-most begun)

@@ -34,7 +34,7 @@ unfolding onesOf
 word-none w e v b = has-of-zero w v (below-none 32 w e v b)
 
 -- no bit of any word
-words-none : (ws : List ℕ) → onesIn ws ≡ 0 → (i v : ℕ) → v < 32 → has (getD ws i 0) v ≡ false
+pub words-none : (ws : List ℕ) → onesIn ws ≡ 0 → (i v : ℕ) → v < 32 → has (getD ws i 0) v ≡ false
 unfolding onesIn
 words-none [] e i v b = has-zero v
 words-none (w ∷ ws) e zero v b = word-none w (omega arith) v b

@@ -1,5 +1,5 @@
 -- What the promises speak of: routes, tables that can come to be, and packets that are carried on. In the words of the specification.
-use Prim.Native.Nat.{ℕ, _+_, _-_, _≤_, _<_}
+use Prim.Native.Nat.{ℕ, suc, _+_, _-_, _*_, _≤_, _<_}
 use mathlib.Core.Path.{_≡_}
 use mathlib.Core.List.{List, [], _∷_}
 use mathlib.Core.Bool.{true}
@@ -8,8 +8,9 @@ use Rattle.stacks.specs.Stacks.{okStack, number}
 use Rattle.stacks.specs.Functions.{apply, becomes}
 use Rattle.words.specs.Words.{onesIn}
 use Rattle.network.specs.Network.{Network, refusalOf, present, can, weight, accepts}
-use Rattle.table.specs.Table.{Table, fresh}
-use Rattle.table.specs.Answers.{deliverTable}
+use Rattle.table.specs.Table.{Table, noRow, rowsEach, fresh}
+use Rattle.table.specs.Answers.{deliverRefusal, deliverTable}
+use Rattle.forward.specs.Forward.{Journey}
 use Rattle.forward.specs.Answers.{lookupOf}
 use Rattle.forward.specs.declared.Look.{Look}
 
@@ -32,6 +33,23 @@ module _ (net : Network) where
   pub data Reached : Table → Type 0 where
     begun : Reached (fresh net)
     delivery : {t : Table} (Q U D N : ℕ) → Reached t → Reached (deliverTable net t Q U D N)
+
+  -- so many deliveries of waiting messages, in any order, since the fresh table
+  pub data Done : ℕ → Table → Type 0 where
+    begun : Done 0 (fresh net)
+    delivery : {k : ℕ} {t : Table} (Q U D N : ℕ) → Done k t → deliverRefusal net t Q U D N ≡ 0 → Done (suc k) (deliverTable net t Q U D N)
+
+  -- a bound for them: for each destination the costs of its rows together fall at most rows x noRow times, and up to the next fall there are
+  -- at most as many deliveries as messages can wait about it
+  abbrev pub mostDeliveries : ℕ
+  mostDeliveries = net .n * (rowsEach net * noRow * suc (rowsEach net * net .n) + rowsEach net * net .n)
+
+  -- a carry's outcome: "it arrives with a single header its destination accepts, having spent at most c"
+  pub record Arrives (D c : ℕ) (j : Journey) : Type 0 where
+    pub unrefused : j .refused ≡ 0
+    pub there : j .node ≡ D
+    pub header : (x : ℕ) × (accepts net D x ≡ true) × (j .number ≡ number (net .p) (x ∷ []))
+    pub paid : j .spent ≤ c
 
   -- the tables that can come after one
   pub data Later (t : Table) : Table → Type 0 where
