@@ -25,8 +25,9 @@ pub record ForwardFits (next function number cost : ℕ) : Type 0 where
   pub numbered : number ≤ 16384
   pub priced : cost ≤ 2147303427
 
+-- "at most 16,777,216"
 abbrev pub CountedFits : Counted → Type 0
-CountedFits (Counted.Messages messages) = messages < 2 ^ 62
+CountedFits (Counted.Messages messages) = messages ≤ 16777216
 CountedFits (Counted.Refused refusal) = RefusalFits refusal
 
 abbrev pub DeliveredFits : Delivered → Type 0

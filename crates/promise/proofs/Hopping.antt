@@ -1,4 +1,4 @@
--- A carry with the largest step limit never runs out of it: costs fall strictly from hop to hop, so that a packet meets no row twice.
+-- No carry meets a broken row, and one with the largest step limit never runs out of it: costs fall strictly from hop to hop, so that a packet meets no row twice.
 use Prim.Native.Nat.{ℕ, zero, suc, _≤_, _<_}
 use native.Mathlib.Decide.{ℕ-discrete}
 use native.Mathlib.Nat.{le-refl}
@@ -6,10 +6,10 @@ use native.Mathlib.Omega.{arith}
 use mathlib.Core.Path.{_≡_}
 use mathlib.Core.Logic.{_≢_, by-cases}
 use mathlib.Core.List.{List}
-use mathlib.Core.Bool.{true, false}
+use mathlib.Core.Bool.{true, false, _&&_}
 use lib.Dec.{leb}
 use borrow.Author.Tests.{eq-eqb, ne-eqb, leb-true, le-leb, lt-leb}
-use Rattle.lists.proofs.Tests.{bool-cases}
+use Rattle.lists.proofs.Tests.{bool-cases, both}
 use Rattle.relax.specs.Journeys.{sum, bit}
 use Rattle.relax.proofs.Sum.{sum-lt, sum-most, bit-one, bit-le, bit-lt}
 use Rattle.stacks.specs.Stacks.{number}
@@ -88,6 +88,20 @@ module _ (net : Network) (ok : Network16 net) (t : Table) (r : Reached net t) (D
       rw (looks-on U N u n e c)
       (journey-ends left (nextOf net t U D N) (resultOf net t U D N) (g .next-node) (g .next-stack) (omega (arith, rank-falls U N u n e c)))))
 
+  -- and no row that is met is broken
+  journey-knows : (left U N : ℕ) → U < net .n → Stack net N → journey net t D left U N .refused ≢ 7
+  journey-knows zero U N u n = bool-cases (home net U D N)
+      (λ e. rw (looks-home U N u n e) (λ (z : _≡_ {A = ℕ} 0 7). omega arith))
+      (λ e. by-cases (ℕ-discrete (costOf net t U D N) noRow)
+      (λ c. rw (looks-none U N u n e c) (λ (z : _≡_ {A = ℕ} 6 7). omega arith))
+      (λ c. rw (looks-on U N u n e c) (λ (z : _≡_ {A = ℕ} 8 7). omega arith)))
+  journey-knows (suc left) U N u n = bool-cases (home net U D N)
+      (λ e. rw (looks-home U N u n e) (λ (z : _≡_ {A = ℕ} 0 7). omega arith))
+      (λ e. by-cases (ℕ-discrete (costOf net t U D N) noRow)
+      (λ c. rw (looks-none U N u n e c) (λ (z : _≡_ {A = ℕ} 6 7). omega arith))
+      (λ c. let g = goes-on net ok t r U D N (away-row U N u n e) c in
+      rw (looks-on U N u n e c) (journey-knows left (nextOf net t U D N) (resultOf net t U D N) (g .next-node) (g .next-stack))))
+
 -- ---- and there are at most 16,384 rows
 module _ (net : Network) (ok : Network16 net) (t : Table) (U D : ℕ) (stack : List ℕ) (r : Reached net t) where
   carry-ends : (limit : ℕ) → limit ≤ 16384 → rowsEach net ≤ limit → carryOf net t U D stack limit .refused ≢ 8
@@ -98,6 +112,14 @@ module _ (net : Network) (ok : Network16 net) (t : Table) (U D : ℕ) (stack : L
       (journey-ends net ok t r D (k .destination) limit U (number (net .p) stack) (k .node) (numbered net ok stack (k .stack-ok))
       (omega (arith, rank-most net t D (costOf net t U D (number (net .p) stack))))))
       (λ e. rw (eq-eqb (refusal net t) 0 (reached-refusal net ok r), e) (λ (z : _≡_ {A = ℕ} 4 8). omega arith))
+
+  pub carry-never-7 : (limit : ℕ) → carryOf net t U D stack limit .refused ≢ 7
+  unfolding carryOf
+  carry-never-7 limit = bool-cases (okPacket net t U D stack && leb limit 16384)
+      (λ e. let k = packet net t U D stack (both (okPacket net t U D stack) (leb limit 16384) e .0) in
+      rw (eq-eqb (refusal net t) 0 (reached-refusal net ok r), e)
+      (journey-knows net ok t r D (k .destination) limit U (number (net .p) stack) (k .node) (numbered net ok stack (k .stack-ok))))
+      (λ e. rw (eq-eqb (refusal net t) 0 (reached-refusal net ok r), e) (λ (z : _≡_ {A = ℕ} 4 7). omega arith))
 
   pub never-8 : carryOf net t U D stack 16384 .refused ≢ 8
   never-8 = carry-ends 16384 (le-refl 16384) (valid net (ok .valid) .room)

@@ -18,4 +18,5 @@ pub mod Rounds
 pub mod Hopping
 pub mod Telling
 pub mod Arriving
+pub mod Readings
 pub mod Kept

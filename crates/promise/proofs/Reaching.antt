@@ -11,7 +11,7 @@ use Rattle.relax.specs.Graph.{Step, deliver, stutter, Reach, fresh, more}
 use Rattle.relax.specs.Graph as relax
 use Rattle.network.specs.Network.{Network, refusalOf}
 use Rattle.table.specs.Table.{Table, Sized, rowsAll, vertex, delivered}
-use Rattle.table.specs.Answers.{okLengths, refusal, stepRefusal, deliverRefusal, deliverTable}
+use Rattle.table.specs.Answers.{okLengths, refusal, freshTable, stepRefusal, deliverRefusal, deliverTable}
 use Rattle.bridge.specs.Bridge.{graphOf, stateOf, Bridged}
 use Rattle.bridge.proofs.Beginning.{fresh-sized}
 use Rattle.bridge.proofs.Theorems.{bridged}
@@ -66,6 +66,11 @@ module _ (net : Network) where
   reached-later r (delivery Q U E N l) = delivery Q U E N (reached-later r l)
 
 -- ---- the theory, for the destination D
+-- what the call fresh leaves
+pub begins : (net : Network) (t : Table) → refusal net t ≡ 0 → Reached net (freshTable net t)
+unfolding freshTable
+begins net t e = rw (eq-eqb (refusal net t) 0 e) begun
+
 module _ (net : Network) (ok : Network16 net) where
   pub reached-refusal : {t : Table} → Reached net t → refusal net t ≡ 0
   reached-refusal r = sized-refusal net (ok .valid) (sized net r)

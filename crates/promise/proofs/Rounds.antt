@@ -11,19 +11,10 @@ use Rattle.network.specs.Network.{Network}
 use Rattle.table.specs.Table.{Table, nodeAt, destinationAt, numberAt, delivered}
 use Rattle.table.specs.Answers.{stepRefusal}
 use Rattle.table.specs.Run.{Outcome, turn, steps, runOf}
-use Rattle.promise.specs.Routes.{Network16, Reached, mostDeliveries, Quiet}
+use Rattle.promise.specs.Routes.{Network16, Reached, mostDeliveries, together, rounds, Quiet}
 use Rattle.promise.proofs.Fitting.{nowhere-quiet}
 use Rattle.promise.proofs.Running.{made, run-steps, run-reached, found-goes}
 use Rattle.promise.proofs.Settling.{settles}
-
--- calls of run in a row, with these limits, and the limits together
-abbrev pub rounds : Network → List ℕ → Table → Table
-rounds net [] t = t
-rounds net (k ∷ limits) t = rounds net limits (runOf net k t .table)
-
-abbrev pub together : List ℕ → ℕ
-together [] = 0
-together (k ∷ limits) = k + together limits
 
 module _ (net : Network) (ok : Network16 net) where
   -- what is said of the outcome of a run with the limit k

@@ -15,7 +15,7 @@ use Rattle.words.specs.Words.{lowest, firstIn}
 use Rattle.words.specs.declared.Found.{Found}
 use Rattle.words.proofs.Answers.{Here, first-at, first-whole}
 use Rattle.words.proofs.LowestBit.{lowest-has, lowest-below}
-use Rattle.network.specs.Network.{Network}
+use Rattle.network.specs.Network.{Network, accepts}
 use Rattle.network.proofs.Laws.{valid, accepts-below, present-nodes}
 use Rattle.table.specs.Table.{Table, noRow, home}
 use Rattle.table.specs.Answers.{refusal, firstOf, firstAnswer}
@@ -25,8 +25,8 @@ use Rattle.forward.specs.Answers.{okPacket, lookupOf}
 use Rattle.forward.specs.declared.Look.{Look}
 use Rattle.promise.specs.Routes.{Network16, Route, Reached, Quiet, arrived, hop}
 use Rattle.promise.proofs.Reaching.{sized, reached-refusal}
-use Rattle.promise.proofs.Looking.{Packet, packet, numbered, looks-home, looks-on}
-use Rattle.promise.proofs.Homes.{one-ok, at-home}
+use Rattle.promise.proofs.Looking.{Packet, packet, packet-ok, numbered, looks-home, looks-on}
+use Rattle.promise.proofs.Homes.{one-ok, one-home, at-home}
 use Rattle.promise.proofs.Silence.{words-none}
 use Rattle.promise.proofs.Fitting.{words-fit, nowhere-quiet}
 use Rattle.promise.proofs.Least.{least, none}
@@ -52,9 +52,9 @@ module _ (net : Network) (ok : Network16 net) where
       (subst (λ (X : ℕ). Route net D X ((N - 1) ∷ []) 0) (sym (h .there)) (arrived (N - 1) (h .accepted)))
 
   -- delivered is said only of a packet that is home
-  pub delivered-here : (t : Table) (U D : ℕ) (stack : List ℕ) → Reached net t → lookupOf net t U D stack ≡ Look.Delivered → Route net D U stack 0
+  pub delivered-here : (t : Table) (U D : ℕ) (stack : List ℕ) → lookupOf net t U D stack ≡ Look.Delivered → Route net D U stack 0
   unfolding lookAt
-  delivered-here t U D stack r e =
+  delivered-here t U D stack e =
       let N = number (net .p) stack in
       let q = delivered-tests (eqb (refusal net t) 0) (okPacket net t U D stack) (home net U D N) (eqb (costOf net t U D N) noRow) (okRow net t U D N)
       (refusal net t) (nextOf net t U D N) (functionOf net t U D N) (resultOf net t U D N) (costOf net t U D N) e in
@@ -71,7 +71,12 @@ module _ (net : Network) (ok : Network16 net) where
       record { node = b .0; destination = b .0; stack-ok = one-ok net ok x (b .1) }
   sent (hop U W f cost stack result can-it linked fits makes rest) = record { node = present-nodes net U W linked .0; destination = destined rest; stack-ok = fits }
 
-  -- so the lookup answers it
+  -- so one that is home is delivered, whatever the table holds
+  pub delivered-there : (t : Table) (D x : ℕ) → refusal net t ≡ 0 → accepts net D x ≡ true → lookupOf net t D D (x ∷ []) ≡ Look.Delivered
+  unfolding lookAt
+  delivered-there t D x z e = simp (eq-eqb (refusal net t) 0 z, packet-ok net t D D (x ∷ []) (sent (arrived x e)), one-home net ok D x e)
+
+  -- and the lookup answers one that has a route
   pub found : (t : Table) (U D cost : ℕ) (stack : List ℕ) → Reached net t → Quiet net t → Route net D U stack cost
       → (lookupOf net t U D stack ≡ Look.Delivered) ⊎ ((W : ℕ) × (f : ℕ) × (M : ℕ) × (c : ℕ) × (lookupOf net t U D stack ≡ Look.Forward W f M c) × (c ≤ cost))
   found t U D cost stack r q p = bool-cases (home net U D N) (λ h. inl (looks-home net ok t r U D stack k h)) (λ h. inr (on h))

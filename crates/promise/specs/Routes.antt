@@ -10,6 +10,7 @@ use Rattle.words.specs.Words.{onesIn}
 use Rattle.network.specs.Network.{Network, refusalOf, present, can, weight, accepts}
 use Rattle.table.specs.Table.{Table, noRow, rowsEach, fresh}
 use Rattle.table.specs.Answers.{deliverRefusal, deliverTable}
+use Rattle.table.specs.Run.{runOf}
 use Rattle.forward.specs.Forward.{Journey}
 use Rattle.forward.specs.Answers.{lookupOf}
 use Rattle.forward.specs.declared.Look.{Look}
@@ -19,6 +20,11 @@ pub record Network16 (net : Network) : Type 0 where
   pub valid : refusalOf net ≡ 0
   pub links : (i : ℕ) → getD (net .links) i 0 < 65536
   pub functions : (i : ℕ) → getD (net .functions) i 0 < 65536
+
+-- limits together
+abbrev pub together : List ℕ → ℕ
+together [] = 0
+together (k ∷ limits) = k + together limits
 
 module _ (net : Network) where
   -- "A route from U with stack H to D: zero or more hops. Each hop applies a function the node has, applicable to the stack, and crosses a
@@ -39,10 +45,15 @@ module _ (net : Network) where
     begun : Done 0 (fresh net)
     delivery : {k : ℕ} {t : Table} (Q U D N : ℕ) → Done k t → deliverRefusal net t Q U D N ≡ 0 → Done (suc k) (deliverTable net t Q U D N)
 
-  -- a bound for them: for each destination the costs of its rows together fall at most rows x noRow times, and up to the next fall there are
-  -- at most as many deliveries as messages can wait about it
+  -- a bound for them: about each destination there are n x S rows, whose costs together fall at most n x S x noRow times, and up to the next
+  -- fall there are at most as many deliveries as messages can wait about it
   abbrev pub mostDeliveries : ℕ
   mostDeliveries = net .n * (rowsEach net * noRow * suc (rowsEach net * net .n) + rowsEach net * net .n)
+
+  -- calls of run in a row, with these limits
+  abbrev pub rounds : List ℕ → Table → Table
+  rounds [] t = t
+  rounds (k ∷ limits) t = rounds limits (runOf net k t .table)
 
   -- a carry's outcome: "it arrives with a single header its destination accepts, having spent at most c"
   pub record Arrives (D c : ℕ) (j : Journey) : Type 0 where

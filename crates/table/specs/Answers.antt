@@ -1,4 +1,4 @@
--- What each call answers and what it leaves in the table, for every input: these are the contracts. The parts "Tables" and "Refusal numbers" of the specification.
+-- What each call answers and what it leaves in the table, for every input: these are the contracts of the crates table, fresh and deliver. The parts "Tables" and "Refusal numbers" of the specification.
 use Prim.Native.Nat.{ℕ}
 use mathlib.Core.Bool.{Bool, cond, _&&_}
 use lib.ListN.{length, getD}

@@ -52,7 +52,7 @@ module _ (net : Network) where
   abbrev pub numberAt : ℕ → ℕ
   numberAt i = i % stacks net + 1
 
-  -- within one gateway's rows, and so for one destination over all gateways, a node with a stack number stands at this place
+  -- the rows about one destination, over all gateways: the one of node U and stack number N is number U x S + N - 1 of them
   abbrev pub vertex : ℕ → ℕ → ℕ
   vertex U N = U * stacks net + (N - 1)
 

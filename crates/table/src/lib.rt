@@ -1,4 +1,4 @@
-// The routing table. Every public function takes any input; its contract is an equation with a definition of specs/Answers.antt or specs/Run.antt.
+// The routing table. Every public function takes any input; its contract is an equation with a definition of specs/Answers.antt.
 ghost use mathlib.Core.Path.{_≡_};
 ghost use Rattle.network.specs.Network.{networkOf};
 ghost use Rattle.table.specs.Table.{tableOf};
