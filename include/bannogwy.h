@@ -14,8 +14,9 @@
  *
  * A hop from U to V by a function f of U costs link(U, V) + price(f). A node accepts, as a destination, what it receives: a where it converts a
  *   to anything or wraps a in anything, b where it unwraps anything from b.
- * What the caller must guarantee: each pointer is valid for the length given with it (elements, not bytes), and not a null pointer; slices that
- * a call writes overlap no other slice of the call; while a call runs nobody else writes any of its slices, nor reads one that it writes.
+ * What the caller must guarantee: each pointer is valid for the length given with it (elements, not bytes); where that length is 0 it is never read
+ * and may be null. Slices that a call writes overlap no other slice of the call. While a call runs nobody else writes any of its slices, nor
+ * reads one that it writes.
  */
 #ifndef BANNOGWY_H
 #define BANNOGWY_H
@@ -90,9 +91,11 @@ uint64_t bannogwy_lookup(BANNOGWY_NETWORK, BANNOGWY_TABLE_READ, size_t node, siz
 #define BANNOGWY_NUMBER(answer) ((uint32_t)(((answer) >> 32) & 0xFFFFu))
 #define BANNOGWY_COST(answer) ((uint32_t)((answer) & 0xFFFFFFFFu))
 
-/* Lookups in turn until delivered or `limit` (0 to 16,384) hops are made; at each node delivered is tested first, then 6 and 7, then the limit. answer[0]: hops; [1]: cost spent; [2]: node reached; [3]: number of
- * the stack there; what stands behind them stays. Answers 0, or a refusal: 1, 2, 3, 4 (then the four are 0), 6, 7 or 8 (then they say how far it came), 9 (answer_len below 4). */
-uint64_t bannogwy_carry(BANNOGWY_NETWORK, BANNOGWY_TABLE_READ, size_t node, size_t destination, const uint8_t *stack, size_t stack_len, size_t limit, uint64_t *answer, size_t answer_len);
+/* Lookups in turn until delivered or `limit` (0 to 16,384) hops are made; at each node delivered is tested first, then 6 and 7, then the limit.
+ * answer[0]: hops; [1]: cost spent; [2]: node reached; [3]: number of the stack there; what stands behind them stays. Answers 0, or a refusal:
+ * 1, 2, 3, 4 (then the four are 0), 6, 7 or 8 (then they say how far it came), 9 (answer_len below 4). */
+uint64_t bannogwy_carry(BANNOGWY_NETWORK, BANNOGWY_TABLE_READ, size_t node, size_t destination, const uint8_t *stack, size_t stack_len,
+                        size_t limit, uint64_t *answer, size_t answer_len);
 
 /* The caller's tally of deliver and run: each counter stops at 4,294,967,295. After a delivery add 1 and its rows, or 1 refused call; after a
  * run its deliveries and their offers, and 1 refused call where it answers a refusal; after refusal 9 add nothing. `tally` points to one record.

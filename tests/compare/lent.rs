@@ -5,28 +5,22 @@ pub trait Word: Copy + PartialEq + Debug {
     fn guard(place: usize) -> Self;
 }
 
-impl Word for u8 {
-    fn guard(place: usize) -> u8 {
-        0xA7 ^ (place as u8).wrapping_mul(29)
-    }
+// a pattern that differs from place to place: a start, and a step that reaches all bits of the word
+macro_rules! guards {
+    ($($word:ty: $start:expr, $step:expr;)*) => {
+        $(impl Word for $word {
+            fn guard(place: usize) -> $word {
+                $start ^ (place as $word).wrapping_mul($step)
+            }
+        })*
+    };
 }
 
-impl Word for u16 {
-    fn guard(place: usize) -> u16 {
-        0xA5C3 ^ (place as u16).wrapping_mul(771)
-    }
-}
-
-impl Word for u32 {
-    fn guard(place: usize) -> u32 {
-        0xA5C3_0F69 ^ (place as u32).wrapping_mul(50_529_027)
-    }
-}
-
-impl Word for u64 {
-    fn guard(place: usize) -> u64 {
-        0xA5C3_0F69_7E81_24DB ^ (place as u64).wrapping_mul(0x0101_0305_0709_0B0D)
-    }
+guards! {
+    u8: 0xA7, 29;
+    u16: 0xA5C3, 771;
+    u32: 0xA5C3_0F69, 50_529_027;
+    u64: 0xA5C3_0F69_7E81_24DB, 0x0101_0305_0709_0B0D;
 }
 
 const BEFORE: usize = 5; // odd, so that a slice starts at any place its type allows

@@ -1,8 +1,8 @@
 -- THE THEOREMS: all that specs/Bridge.antt says of a network that is not refused, whose numbers have 16 bits.
 use Prim.Native.Nat.{ℕ, _<_}
 use mathlib.Core.Path.{_≡_}
-use Rattle.network.specs.Network.{Network, refusalOf}
-use Rattle.bridge.specs.Bridge.{Numbers16, Bridged}
+use Rattle.network.specs.Network.{Network, Numbers16, refusalOf}
+use Rattle.bridge.specs.Bridge.{Bridged}
 use Rattle.bridge.proofs.Weights.{lawful, neighbours-few, hop-function, function-hop}
 use Rattle.bridge.proofs.Beginning.{fresh-sized, fresh-is-fresh}
 use Rattle.deliver.proofs.Deliveries.{goes, delivered-sized}

@@ -11,10 +11,10 @@ use Rattle.stacks.specs.Answers.{appliedOf}
 use Rattle.stacks.specs.declared.After.{After}
 use Rattle.stacks.proofs.Laws.{leads}
 use Rattle.stacks.proofs.Tests.{within}
-use Rattle.network.specs.Network.{Network, present, can, price, weight, refusalOf}
+use Rattle.network.specs.Network.{Network, Numbers16, present, can, price, weight, refusalOf}
 use Rattle.network.proofs.Laws.{valid, present-nodes, weight-most}
 use Rattle.table.specs.Table.{rowsEach, home, vertex, nodeOf, numberOf}
-use Rattle.bridge.specs.Bridge.{Numbers16, functionOf, hops, weightOf, homeOf, graphOf, HopBy}
+use Rattle.bridge.specs.Bridge.{functionOf, hops, weightOf, homeOf, graphOf, HopBy}
 use Rattle.table.proofs.Rows.{vertex-node, vertex-number, vertex-below}
 use Rattle.bridge.proofs.Hops.{By, leader-by, by-small, by-leader}
 

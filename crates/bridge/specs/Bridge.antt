@@ -13,11 +13,6 @@ use Rattle.hear.specs.Hearing.{Message, leader}
 use Rattle.table.specs.Table.{Table, Sized, vertex, nodeOf, numberOf, noRow, rowsEach, rowsAll, place, home, fresh, gateway, delivered}
 use Rattle.table.specs.Answers.{stepRefusal}
 
--- the links and the words of a network are 16-bit numbers
-pub record Numbers16 (net : Network) : Type 0 where
-  pub links : (i : ℕ) → getD (net .links) i 0 < 65536
-  pub functions : (i : ℕ) → getD (net .functions) i 0 < 65536
-
 -- a message about a stack number, of which only that number matters
 abbrev pub about : ℕ → Message
 about N = record { sender = 0; destination = 0; number = N; cost = 0; link = 0 }

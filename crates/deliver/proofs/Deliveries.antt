@@ -20,7 +20,7 @@ use Rattle.network.specs.Network.{Network, present, neighbours}
 use Rattle.hear.specs.Hearing.{Message, Rows, leader, offer, takes, costAt, wayAt, waitingAt, heard}
 use Rattle.hear.proofs.Laws.{heard-long, getD-heard-costs, getD-heard-ways, getD-heard-waiting}
 use Rattle.table.specs.Table.{Table, Sized, vertex, ceiling, rowsEach, rowsAll, place, rowsOf, withRows, gateway, message, cleared, delivered}
-use Rattle.table.specs.Answers.{okMessage, waits, carries, stepRefusal}
+use Rattle.table.specs.Answers.{okMessage, waits, okSender, stepRefusal}
 use Rattle.table.proofs.Rows.{Stack, vertex-node, vertex-number, vertex-below, place-split, place-below, part-long, part-read, put-long, put-here, put-there}
 
 -- ---- what a delivery that is not refused may count on
@@ -40,9 +40,9 @@ none-refused true false c e = absurd (omega arith)
 none-refused false b c e = absurd (omega arith)
 
 pub goes : (net : Network) (t : Table) (Q U D N : ℕ) → stepRefusal net t Q U D N ≡ 0 → Goes net t Q U D N
-unfolding stepRefusal okMessage waits carries
+unfolding stepRefusal okMessage waits okSender
 goes net t Q U D N e =
-    let r = none-refused (okMessage net t Q U D N) (waits net t Q U D N) (carries net t Q U D N) e in
+    let r = none-refused (okMessage net t Q U D N) (waits net t Q U D N) (okSender net t Q U D N) e in
     let a = both (ltb Q (net .n)) (ltb U (net .n) && (ltb D (net .n) && okNumber (net .p) (net .h) N)) (r .0) in
     let b = both (ltb U (net .n)) (ltb D (net .n) && okNumber (net .p) (net .h) N) (a .1) in
     let c = both (ltb D (net .n)) (okNumber (net .p) (net .h) N) (b .1) in

@@ -12,7 +12,7 @@ use Rattle.words.specs.Words.{has, without}
 use Rattle.network.specs.Network.{Network, stacks, link, present}
 use Rattle.hear.specs.Answers.{messageOf}
 use Rattle.table.specs.Table.{Table, tableOf, ceiling, place, cleared, delivered, offersTaken}
-use Rattle.table.specs.Answers.{okMessage, waits, carries, refusal, stepRefusal, deliverRefusal, deliverAnswer, deliverTable}
+use Rattle.table.specs.Answers.{okMessage, waits, okSender, refusal, stepRefusal, deliverRefusal, deliverAnswer, deliverTable}
 use Rattle.deliver.specs.Steps.{Prepared, Receives, stepAnswer, stepTable}
 use Rattle.table.specs.declared.Delivered.{Delivered}
 use Rattle.table.proofs.Begins.{Ready, begun, stopped}
@@ -64,15 +64,15 @@ module _ (net : Network) (t : Table) (Q U D N : ℕ) where
 
     module _ (waiting : has (getD (t .waiting) (place net Q D N) 0) U ≡ true) where
       pub too-dear : ceiling < getD (t .cost) (place net Q D N) 0 → Answers net t Q U D N (Delivered.Refused 7) t
-      unfolding stepRefusal waits carries
+      unfolding stepRefusal waits okSender
       too-dear high = refused 7 (simp (good, waiting, lt-leb (getD (t .cost) (place net Q D N) 0) ceiling high)) refl
 
       pub no-link : getD (t .cost) (place net Q D N) 0 ≤ ceiling → link net U Q ≡ 0 → Answers net t Q U D N (Delivered.Refused 7) t
-      unfolding stepRefusal waits carries present
+      unfolding stepRefusal waits okSender present
       no-link low none = refused 7 (simp (good, waiting, le-leb (getD (t .cost) (place net Q D N) 0) ceiling low, none)) refl
 
       pub passes : getD (t .cost) (place net Q D N) 0 ≤ ceiling → (link net U Q ≡ 0 → ⊥) → stepRefusal net t Q U D N ≡ 0
-      unfolding stepRefusal waits carries present
+      unfolding stepRefusal waits okSender present
       passes low some =
           let linked : 0 < link net U Q = omega arith in
           simp (good, waiting, le-leb (getD (t .cost) (place net Q D N) 0) ceiling low, lt-ltb 0 (link net U Q) linked)
@@ -103,9 +103,9 @@ all-hold true false c e = absurd (omega arith)
 all-hold false b c e = absurd (omega arith)
 
 pub passed : (net : Network) (t : Table) (Q U D N : ℕ) → stepRefusal net t Q U D N ≡ 0 → Passed net t Q U D N
-unfolding stepRefusal okMessage waits carries okNumber
+unfolding stepRefusal okMessage waits okSender okNumber
 passed net t Q U D N none =
-    let all = all-hold (okMessage net t Q U D N) (waits net t Q U D N) (carries net t Q U D N) none in
+    let all = all-hold (okMessage net t Q U D N) (waits net t Q U D N) (okSender net t Q U D N) none in
     let q = both (ltb Q (net .n)) (ltb U (net .n) && (ltb D (net .n) && (leb 1 N && leb N (stacks net)))) (all .0) in
     let u = both (ltb U (net .n)) (ltb D (net .n) && (leb 1 N && leb N (stacks net))) (q .1) in
     let d = both (ltb D (net .n)) (leb 1 N && leb N (stacks net)) (u .1) in

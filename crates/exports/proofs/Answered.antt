@@ -21,7 +21,7 @@ use Rattle.network.specs.declared.Checked.{Checked}
 use Rattle.network.proofs.Laws.{refusal-most, valid}
 use Rattle.hear.specs.Hearing.{takes, taken}
 use Rattle.table.specs.Table.{Table, rowsEach, rowsAll, nodeAt, destinationAt, numberAt, rowsOf, gateway, message, cleared, offersTaken, fresh, delivered}
-use Rattle.table.specs.Answers.{okTable, refusal, okMessage, waits, carries, stepRefusal, deliverRefusal, freshAnswer, countAnswer, firstOf, firstAnswer, deliverAnswer}
+use Rattle.table.specs.Answers.{okTable, refusal, okMessage, waits, okSender, stepRefusal, deliverRefusal, freshAnswer, countAnswer, firstOf, firstAnswer, deliverAnswer}
 use Rattle.table.specs.Run.{Outcome, after, ends, turn, steps, runOf}
 use Rattle.table.specs.declared.Counted.{Counted}
 use Rattle.table.specs.declared.Delivered.{Delivered}
@@ -117,7 +117,7 @@ offers-most net t Q U D N =
 module _ (net : Network) (t : Table) (Q U D N : ℕ) where
   step-few : stepRefusal net t Q U D N ≤ 7
   unfolding stepRefusal
-  step-few = go (okMessage net t Q U D N) (waits net t Q U D N) (carries net t Q U D N)
+  step-few = go (okMessage net t Q U D N) (waits net t Q U D N) (okSender net t Q U D N)
     where
       go : (a b c : Bool) → cond a (cond b (cond c 0 7) 5) 4 ≤ 7
       go true true true = omega arith

@@ -54,8 +54,8 @@ module _ (net : Network) (t : Table) (ready : Ready net t (stacks net)) (U D N :
 
 module _ (net : Network) (t : Table) (U D : ℕ) (stack : List ℕ) where
   pub look-fits : LookFits (lookupOf net t U D stack)
-  look-fits = by-refusal net t LookFits (cond (okPacket net t U D stack) (lookAt net t U D (number (net .p) stack)) (Look.Refused 4)) (Look.Refused (refusal net t))
-      (λ r. go r (okPacket net t U D stack)) (λ f. f)
+  look-fits = by-refusal net t LookFits (cond (okPacket net U D stack) (lookAt net t U D (number (net .p) stack)) (Look.Refused 4)) (Look.Refused (refusal net t))
+      (λ r. go r (okPacket net U D stack)) (λ f. f)
     where
       go : Ready net t (stacks net) → (b : Bool) → LookFits (cond b (lookAt net t U D (number (net .p) stack)) (Look.Refused 4))
       go r true = at-fits net t r U D (number (net .p) stack)

@@ -37,13 +37,13 @@ refused-so false x r e = (refl, (cc))
 -- ---- at each test of `begin`
 module _ (net : Network) (t : Table) (U D : ℕ) (stack : List ℕ) where
   pub not-begun : (r : ℕ) → readyOf net (length (t .cost)) (length (t .way)) (length (t .waiting)) ≡ Checked.Refused r → Packet.Refused r ≡ packetOf net t U D stack
-  not-begun r e = sym (ap (λ (k : Checked). packetFrom k (okPacket net t U D stack) (number (net .p) stack)) e)
+  not-begun r e = sym (ap (λ (k : Checked). packetFrom k (okPacket net U D stack) (number (net .p) stack)) e)
 
   module _ (s : ℕ) (e : readyOf net (length (t .cost)) (length (t .way)) (length (t .waiting)) ≡ Checked.Stacks s) where
-    answers : (ok : Bool) → okPacket net t U D stack ≡ ok → cond ok (Packet.Number s (number (net .p) stack)) (Packet.Refused 4) ≡ packetOf net t U D stack
+    answers : (ok : Bool) → okPacket net U D stack ≡ ok → cond ok (Packet.Number s (number (net .p) stack)) (Packet.Refused 4) ≡ packetOf net t U D stack
     answers ok d =
         ap (λ (b : Bool). cond b (Packet.Number s (number (net .p) stack)) (Packet.Refused 4)) (sym d)
-        ∙ sym (ap (λ (k : Checked). packetFrom k (okPacket net t U D stack) (number (net .p) stack)) e)
+        ∙ sym (ap (λ (k : Checked). packetFrom k (okPacket net U D stack) (number (net .p) stack)) e)
 
     size : okSize (net .p) (net .h) ≡ true
     size = valid net (is-ready net t s e .network) .size
@@ -71,14 +71,14 @@ module _ (net : Network) (t : Table) (U D : ℕ) (stack : List ℕ) where
 -- ---- what lookup and carry know
 pub record Begun (net : Network) (t : Table) (U D : ℕ) (stack : List ℕ) (s N : ℕ) : Type 0 where
   pub ready : Ready net t s
-  pub good : okPacket net t U D stack ≡ true
+  pub good : okPacket net U D stack ≡ true
   pub number-is : N ≡ number (net .p) stack
 
 module _ (net : Network) (t : Table) (U D : ℕ) (stack : List ℕ) where
   pub is-begun : (s N : ℕ) → packetOf net t U D stack ≡ Packet.Number s N → Begun net t U D stack s N
-  is-begun s N e = go (readyOf net (length (t .cost)) (length (t .way)) (length (t .waiting))) refl (okPacket net t U D stack) refl e
+  is-begun s N e = go (readyOf net (length (t .cost)) (length (t .way)) (length (t .waiting))) refl (okPacket net U D stack) refl e
     where
-      go : (k : Checked) → readyOf net (length (t .cost)) (length (t .way)) (length (t .waiting)) ≡ k → (ok : Bool) → okPacket net t U D stack ≡ ok
+      go : (k : Checked) → readyOf net (length (t .cost)) (length (t .way)) (length (t .waiting)) ≡ k → (ok : Bool) → okPacket net U D stack ≡ ok
           → packetFrom k ok (number (net .p) stack) ≡ Packet.Number s N → Begun net t U D stack s N
       go (Checked.Stacks m) u true v d = let q : m ≡ s = cc in record { ready = is-ready net t s (u ∙ ap Checked.Stacks q); good = v; number-is = cc }
       go (Checked.Stacks m) u false v d = absurd (let z : _≡_ {A = ℕ} 0 1 = cc in omega arith)
@@ -124,9 +124,9 @@ module _ (net : Network) (t : Table) (U D : ℕ) (stack : List ℕ) where
   pub refused-both : (r : ℕ) → packetOf net t U D stack ≡ Packet.Refused r
       → (Look.Refused r ≡ lookupOf net t U D stack) × ((limit : ℕ) → stop 0 0 r ≡ carryOf net t U D stack limit)
   unfolding carryOf
-  refused-both r e = go (readyOf net (length (t .cost)) (length (t .way)) (length (t .waiting))) refl (okPacket net t U D stack) refl e
+  refused-both r e = go (readyOf net (length (t .cost)) (length (t .way)) (length (t .waiting))) refl (okPacket net U D stack) refl e
     where
-      go : (k : Checked) → readyOf net (length (t .cost)) (length (t .way)) (length (t .waiting)) ≡ k → (ok : Bool) → okPacket net t U D stack ≡ ok
+      go : (k : Checked) → readyOf net (length (t .cost)) (length (t .way)) (length (t .waiting)) ≡ k → (ok : Bool) → okPacket net U D stack ≡ ok
           → packetFrom k ok (number (net .p) stack) ≡ Packet.Refused r
           → (Look.Refused r ≡ lookupOf net t U D stack) × ((limit : ℕ) → stop 0 0 r ≡ carryOf net t U D stack limit)
       go (Checked.Stacks m) u true v d = absurd (let z : _≡_ {A = ℕ} 0 1 = cc in omega arith)

@@ -12,19 +12,19 @@ use Rattle.forward.specs.Forward.{lookAt, Journey, stop, journey}
 use Rattle.forward.specs.declared.Look.{Look}
 use Rattle.forward.specs.declared.Carried.{Carried}
 
-module _ (net : Network) (t : Table) (U D : ℕ) (stack : List ℕ) where
-  -- refusal 4: "node not below n, protocol not below p, height 0 or above h"
-  unfoldable pub okPacket : Bool
-  okPacket = ltb U (net .n) && (ltb D (net .n) && okStack (net .p) (net .h) stack)
+-- refusal 4: "node not below n, protocol not below p, height 0 or above h"
+unfoldable pub okPacket : Network → ℕ → ℕ → List ℕ → Bool
+okPacket net U D stack = ltb U (net .n) && (ltb D (net .n) && okStack (net .p) (net .h) stack)
 
+module _ (net : Network) (t : Table) (U D : ℕ) (stack : List ℕ) where
   abbrev pub lookupOf : Look
-  lookupOf = cond (eqb (refusal net t) 0) (cond okPacket (lookAt net t U D (number (net .p) stack)) (Look.Refused 4)) (Look.Refused (refusal net t))
+  lookupOf = cond (eqb (refusal net t) 0) (cond (okPacket net U D stack) (lookAt net t U D (number (net .p) stack)) (Look.Refused 4)) (Look.Refused (refusal net t))
 
   -- carry: refusals 1 to 4 return zeros; "step limit above 16,384" is 4 too
   unfoldable pub carryOf : ℕ → Journey
   carryOf limit =
       cond (eqb (refusal net t) 0)
-      (cond (okPacket && leb limit 16384) (journey net t D limit U (number (net .p) stack)) (stop 0 0 4))
+      (cond (okPacket net U D stack && leb limit 16384) (journey net t D limit U (number (net .p) stack)) (stop 0 0 4))
       (stop 0 0 (refusal net t))
 
 -- what carry answers is this journey

@@ -20,7 +20,7 @@ packetFrom (Checked.Stacks s) ok N = cond ok (Packet.Number s N) (Packet.Refused
 packetFrom (Checked.Refused r) ok N = Packet.Refused r
 
 abbrev pub packetOf : Network → Table → ℕ → ℕ → List ℕ → Packet
-packetOf net t U D stack = packetFrom (readyOf net (length (t .cost)) (length (t .way)) (length (t .waiting))) (okPacket net t U D stack) (number (net .p) stack)
+packetOf net t U D stack = packetFrom (readyOf net (length (t .cost)) (length (t .way)) (length (t .waiting))) (okPacket net U D stack) (number (net .p) stack)
 
 -- what `look` and `travel` may count on, since `begin` tested it: s stacks, slices of these lengths, and a packet at U for D with stack number N
 pub record Placed (net : Network) (s costs ways U D N : ℕ) : Type 0 where

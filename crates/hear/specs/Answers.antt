@@ -42,6 +42,15 @@ refusalOf g m r = cond (okHearing g m r) (cond (leb (m .cost) 2147303427) 0 7) 4
 abbrev pub answerOf : Gateway → Message → Rows → Heard
 answerOf g m r = cond (eqb (refusalOf g m r) 0) (Heard.Rows (taken g m r)) (Heard.Refused (refusalOf g m r))
 
+-- "A refusal returns its number and zeros": of that answer the refusal number, 0 where nothing is refused, and the rows that go with it
+abbrev pub heardRefusal : Heard → ℕ
+heardRefusal (Heard.Rows x) = 0
+heardRefusal (Heard.Refused r) = r
+
+abbrev pub heardRows : Heard → ℕ
+heardRows (Heard.Rows x) = x
+heardRows (Heard.Refused r) = 0
+
 -- the rows afterwards; a refusal leaves them as they were
 unfoldable pub rowsAfter : Gateway → Message → Rows → Rows
 rowsAfter g m r = cond (eqb (refusalOf g m r) 0) (heard g m r) r

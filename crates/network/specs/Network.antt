@@ -1,5 +1,5 @@
 -- The network that a call is handed: its numbers, its links and what its gateways can do. The part "Numbers a network is made of" of the specification.
-use Prim.Native.Nat.{ℕ, _+_, _-_, _*_}
+use Prim.Native.Nat.{ℕ, _+_, _-_, _*_, _<_}
 use mathlib.Core.List.{List}
 use mathlib.Core.Bool.{Bool, cond, _&&_, _||_, not}
 use lib.ListN.{length, getD}
@@ -16,6 +16,11 @@ pub record Network : Type 0 where
   pub h : ℕ
   pub links : List ℕ
   pub functions : List ℕ
+
+-- "of 16-bit numbers", as the slices hold them
+pub record Numbers16 (net : Network) : Type 0 where
+  pub links : (i : ℕ) → getD (net .links) i 0 < 65536
+  pub functions : (i : ℕ) → getD (net .functions) i 0 < 65536
 
 abbrev pub networkOf : ℕ → ℕ → ℕ → List ℕ → List ℕ → Network
 networkOf n p h links functions = record { n = n; p = p; h = h; links = links; functions = functions }

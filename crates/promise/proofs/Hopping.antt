@@ -106,7 +106,7 @@ module _ (net : Network) (ok : Network16 net) (t : Table) (r : Reached net t) (D
 module _ (net : Network) (ok : Network16 net) (t : Table) (U D : ℕ) (stack : List ℕ) (r : Reached net t) where
   carry-ends : (limit : ℕ) → limit ≤ 16384 → rowsEach net ≤ limit → carryOf net t U D stack limit .refused ≢ 8
   unfolding carryOf
-  carry-ends limit few enough = bool-cases (okPacket net t U D stack)
+  carry-ends limit few enough = bool-cases (okPacket net U D stack)
       (λ e. let k = packet net t U D stack e in
       rw (eq-eqb (refusal net t) 0 (reached-refusal net ok r), e, le-leb limit 16384 few)
       (journey-ends net ok t r D (k .destination) limit U (number (net .p) stack) (k .node) (numbered net ok stack (k .stack-ok))
@@ -115,8 +115,8 @@ module _ (net : Network) (ok : Network16 net) (t : Table) (U D : ℕ) (stack : L
 
   pub carry-never-7 : (limit : ℕ) → carryOf net t U D stack limit .refused ≢ 7
   unfolding carryOf
-  carry-never-7 limit = bool-cases (okPacket net t U D stack && leb limit 16384)
-      (λ e. let k = packet net t U D stack (both (okPacket net t U D stack) (leb limit 16384) e .0) in
+  carry-never-7 limit = bool-cases (okPacket net U D stack && leb limit 16384)
+      (λ e. let k = packet net t U D stack (both (okPacket net U D stack) (leb limit 16384) e .0) in
       rw (eq-eqb (refusal net t) 0 (reached-refusal net ok r), e)
       (journey-knows net ok t r D (k .destination) limit U (number (net .p) stack) (k .node) (numbered net ok stack (k .stack-ok))))
       (λ e. rw (eq-eqb (refusal net t) 0 (reached-refusal net ok r), e) (λ (z : _≡_ {A = ℕ} 4 7). omega arith))

@@ -71,7 +71,7 @@ module _ (net : Network) (ok : Network16 net) where
         let c = none .1 no-way in
         bool-cases (home net U D (number (net .p) stack)) (λ e. absurd (omega (arith, c, home-zero e))) (λ e. looks-none net ok t r U D stack k e c)
 
-  pub no-route : (t : Table) (U D : ℕ) (stack : List ℕ) → Reached net t → Quiet net t → okPacket net t U D stack ≡ true
+  pub no-route : (t : Table) (U D : ℕ) (stack : List ℕ) → Reached net t → Quiet net t → okPacket net U D stack ≡ true
       → (lookupOf net t U D stack ≡ Look.Refused 6) ↔ ((cost : ℕ) → ¬ Route net D U stack cost)
   no-route t U D stack r q e =
       let k = packet net t U D stack e in

@@ -32,14 +32,14 @@ pub record Packet (net : Network) (U D : ℕ) (stack : List ℕ) : Type 0 where
   pub stack-ok : okStack (net .p) (net .h) stack ≡ true
 
 module _ (net : Network) (t : Table) (U D : ℕ) (stack : List ℕ) where
-  pub packet : okPacket net t U D stack ≡ true → Packet net U D stack
+  pub packet : okPacket net U D stack ≡ true → Packet net U D stack
   unfolding okPacket
   packet e =
       let a = both (ltb U (net .n)) (ltb D (net .n) && okStack (net .p) (net .h) stack) e in
       let b = both (ltb D (net .n)) (okStack (net .p) (net .h) stack) (a .1) in
       record { node = ltb-true U (net .n) (a .0); destination = ltb-true D (net .n) (b .0); stack-ok = b .1 }
 
-  pub packet-ok : Packet net U D stack → okPacket net t U D stack ≡ true
+  pub packet-ok : Packet net U D stack → okPacket net U D stack ≡ true
   unfolding okPacket
   packet-ok k = simp (lt-ltb U (net .n) (k .node), lt-ltb D (net .n) (k .destination), k .stack-ok)
 
@@ -69,7 +69,7 @@ pub shown : (net : Network) (t : Table) (U D W f M c : ℕ) (stack : List ℕ) �
 unfolding lookAt
 shown net t U D W f M c stack e =
     let N = number (net .p) stack in
-    let q = forward-tests (eqb (refusal net t) 0) (okPacket net t U D stack) (home net U D N) (eqb (costOf net t U D N) noRow) (okRow net t U D N)
+    let q = forward-tests (eqb (refusal net t) 0) (okPacket net U D stack) (home net U D N) (eqb (costOf net t U D N) noRow) (okRow net t U D N)
     (refusal net t) (nextOf net t U D N) (functionOf net t U D N) (resultOf net t U D N) (costOf net t U D N) W f M c e in
     record {
       asked = packet net t U D stack (q .0);
@@ -104,12 +104,12 @@ module _ (net : Network) (ok : Network16 net) (t : Table) (r : Reached net t) (U
     looks-on e c = looks ∙ simp (e, ne-eqb (costOf net t U D N) noRow c, row-ok net ok t r U D N (away-row e) c)
 
   -- a packet that is refused
-  looks-refused : okPacket net t U D stack ≡ false → lookupOf net t U D stack ≡ Look.Refused 4
+  looks-refused : okPacket net U D stack ≡ false → lookupOf net t U D stack ≡ Look.Refused 4
   looks-refused e = simp (eq-eqb (refusal net t) 0 (reached-refusal net ok r), e)
 
   -- no lookup answers 7
   pub not-7 : lookupOf net t U D stack ≢ Look.Refused 7
-  not-7 = bool-cases (okPacket net t U D stack)
+  not-7 = bool-cases (okPacket net U D stack)
       (λ e. let k = packet net t U D stack e in
       bool-cases (home net U D N)
       (λ h e7. let x = sym (looks-home k h) ∙ e7 in let o : _≡_ {A = ℕ} 0 1 = cc in omega arith)

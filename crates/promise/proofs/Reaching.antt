@@ -77,7 +77,7 @@ module _ (net : Network) (ok : Network16 net) where
 
   module _ (D : ℕ) (d : D < net .n) where
     pub bridge : Bridged net D
-    bridge = bridged net (ok .valid) (record { links = ok .links; functions = ok .functions }) D d
+    bridge = bridged net (ok .valid) (ok .numbers) D d
 
     -- a delivery that goes through is a step: a delivery if it is about D, and else nothing changes
     pub steps : (t : Table) (Q U E N : ℕ) → Sized net t → stepRefusal net t Q U E N ≡ 0 → Step (graphOf net D) (stateOf net D t) (stateOf net D (delivered net t Q U E N))

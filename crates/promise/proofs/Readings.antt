@@ -9,7 +9,12 @@ use lib.Dec.{eqb}
 use borrow.Author.Tests.{ne-eqb}
 use Rattle.words.specs.Words.{onesIn, firstIn}
 use Rattle.words.specs.declared.Found.{Found}
-use Rattle.network.specs.Network.{Network}
+use Rattle.network.specs.Network.{Network, stacks, refusalOf}
+use Rattle.network.specs.Answers.{checkedOf, checkedRefusal}
+use Rattle.network.specs.declared.Checked.{Checked}
+use Rattle.hear.specs.Hearing.{Gateway, Message, Rows, taken}
+use Rattle.hear.specs.Answers.{answerOf, heardRefusal}
+use Rattle.hear.specs.declared.Heard.{Heard}
 use Rattle.table.specs.Table.{Table, fresh, offersTaken}
 use Rattle.table.specs.Answers.{
   refusal,
@@ -35,6 +40,12 @@ read : {A : Type 0} (reads : A → ℕ) (refuses : ℕ → A) (gives : A) (r : �
 read reads refuses gives r zero back = by-cases (ℕ-discrete r 0)
     (λ e. subst (λ (x : ℕ). reads (cond (eqb x 0) gives (refuses x)) ≡ x) (sym e) zero)
     (λ other. rw (ne-eqb r 0 other) (back r))
+
+pub check-reads : (net : Network) → checkedRefusal (checkedOf net) ≡ refusalOf net
+check-reads net = read checkedRefusal Checked.Refused (Checked.Stacks (stacks net)) (refusalOf net) refl (λ q. refl)
+
+pub hear-reads : (g : Gateway) (m : Message) (r : Rows) → heardRefusal (answerOf g m r) ≡ Rattle.hear.specs.Answers.refusalOf g m r
+hear-reads g m r = read heardRefusal Heard.Refused (Heard.Rows (taken g m r)) (Rattle.hear.specs.Answers.refusalOf g m r) refl (λ q. refl)
 
 module _ (net : Network) (t : Table) where
   pub fresh-reads : countedRefusal (freshAnswer net t) ≡ refusal net t

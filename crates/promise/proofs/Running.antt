@@ -16,7 +16,7 @@ use Rattle.words.proofs.LowestBit.{lowest-has}
 use Rattle.network.specs.Network.{Network, present}
 use Rattle.network.proofs.Laws.{valid, present-nodes}
 use Rattle.table.specs.Table.{Table, ceiling, rowsAll, place, nodeAt, destinationAt, numberAt, vertex, delivered, offersTaken}
-use Rattle.table.specs.Answers.{refusal, okMessage, waits, carries, stepRefusal, deliverRefusal, deliverTable}
+use Rattle.table.specs.Answers.{refusal, okMessage, waits, okSender, stepRefusal, deliverRefusal, deliverTable}
 use Rattle.table.specs.Run.{Outcome, after, ends, turn, steps, runOf}
 use Rattle.table.proofs.Rows.{Stack, Row, is-row, of-place, vertex-node, vertex-below}
 use Rattle.bridge.specs.Bridge.{graphOf, stateOf}
@@ -85,7 +85,7 @@ module _ (net : Network) (ok : Network16 net) where
     price = cost-most net ok t r Q D N (λ z. told .priced (cost-is net Q D N q n t ∙ z)) q d n
 
     pub goes-through : stepRefusal net t Q U D N ≡ 0
-    unfolding stepRefusal okMessage waits carries
+    unfolding stepRefusal okMessage waits okSender
     goes-through = simp (
       lt-ltb Q (net .n) q,
       lt-ltb U (net .n) (present-nodes net U Q linked .0),

@@ -56,7 +56,7 @@ module _ (net : Network) (ok : Network16 net) where
   unfolding lookAt
   delivered-here t U D stack e =
       let N = number (net .p) stack in
-      let q = delivered-tests (eqb (refusal net t) 0) (okPacket net t U D stack) (home net U D N) (eqb (costOf net t U D N) noRow) (okRow net t U D N)
+      let q = delivered-tests (eqb (refusal net t) 0) (okPacket net U D stack) (home net U D N) (eqb (costOf net t U D N) noRow) (okRow net t U D N)
       (refusal net t) (nextOf net t U D N) (functionOf net t U D N) (resultOf net t U D N) (costOf net t U D N) e in
       home-here U D stack (packet net t U D stack (q .0)) (q .1)
 

@@ -36,7 +36,7 @@ module _ (net : Network) where
     pub least : (t : Table) (U D W f M c cost : ℕ) (stack : List ℕ) → Reached net t → Quiet net t
         → lookupOf net t U D stack ≡ Look.Forward W f M c → Route net D U stack cost → c ≤ cost
     -- "and 'no route' is said only where no such route exists", and everywhere there.
-    pub no-route : (t : Table) (U D : ℕ) (stack : List ℕ) → Reached net t → Quiet net t → okPacket net t U D stack ≡ true
+    pub no-route : (t : Table) (U D : ℕ) (stack : List ℕ) → Reached net t → Quiet net t → okPacket net U D stack ≡ true
         → (lookRefusal (lookupOf net t U D stack) ≡ 6) ↔ ((cost : ℕ) → ¬ Route net D U stack cost)
     -- Where there is a route the lookup answers, with a cost no greater than the route's,
     pub found : (t : Table) (U D cost : ℕ) (stack : List ℕ) → Reached net t → Quiet net t → Route net D U stack cost

@@ -3,11 +3,10 @@ use Prim.Native.Nat.{ℕ, suc, _+_, _-_, _*_, _≤_, _<_}
 use mathlib.Core.Path.{_≡_}
 use mathlib.Core.List.{List, [], _∷_}
 use mathlib.Core.Bool.{true}
-use lib.ListN.{getD}
 use Rattle.stacks.specs.Stacks.{okStack, number}
 use Rattle.stacks.specs.Functions.{apply, becomes}
 use Rattle.words.specs.Words.{onesIn}
-use Rattle.network.specs.Network.{Network, refusalOf, present, can, weight, accepts}
+use Rattle.network.specs.Network.{Network, Numbers16, refusalOf, present, can, weight, accepts}
 use Rattle.table.specs.Table.{Table, noRow, rowsEach, fresh}
 use Rattle.table.specs.Answers.{deliverRefusal, deliverTable}
 use Rattle.table.specs.Run.{runOf}
@@ -18,8 +17,7 @@ use Rattle.forward.specs.declared.Look.{Look}
 -- a network that no call refuses, of 16-bit numbers as the slices hold them
 pub record Network16 (net : Network) : Type 0 where
   pub valid : refusalOf net ≡ 0
-  pub links : (i : ℕ) → getD (net .links) i 0 < 65536
-  pub functions : (i : ℕ) → getD (net .functions) i 0 < 65536
+  pub numbers : Numbers16 net
 
 -- limits together
 abbrev pub together : List ℕ → ℕ

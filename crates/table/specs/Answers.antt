@@ -63,12 +63,12 @@ module _ (net : Network) (t : Table) where
     waits = has (getD (t .waiting) (place net Q D N) 0) U
 
     -- refusal 7: "sender's cost above the ceiling, or no link U to V"
-    unfoldable pub carries : Bool
-    carries = leb (getD (t .cost) (place net Q D N) 0) ceiling && present net U Q
+    unfoldable pub okSender : Bool
+    okSender = leb (getD (t .cost) (place net Q D N) 0) ceiling && present net U Q
 
     -- deliver's refusals once the network and the table are found right, and all of them in order
     unfoldable pub stepRefusal : ℕ
-    stepRefusal = unless okMessage 4 (unless waits 5 (unless carries 7 0))
+    stepRefusal = unless okMessage 4 (unless waits 5 (unless okSender 7 0))
 
     unfoldable pub deliverRefusal : ℕ
     deliverRefusal = cond (eqb refusal 0) stepRefusal refusal
