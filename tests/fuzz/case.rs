@@ -1,0 +1,138 @@
+// All that is lent to a call, and the library's calls as include/bannogwy.h declares them.
+use crate::call::Call;
+use crate::memory::{Lent, Slice, Vast};
+
+macro_rules! declare {
+    ($($name:ident($($more:ty),*);)*) => {
+        extern "C" {
+            $(fn $name(
+                n: usize, p: usize, h: usize, links: *const u16, links_len: usize, functions: *const u16, functions_len: usize,
+                cost: *mut u32, cost_len: usize, way: *mut u16, way_len: usize, waiting: *mut u32, waiting_len: usize,
+                $(_: $more),*
+            ) -> u64;)*
+        }
+    };
+}
+
+declare! {
+    bannogwy_fresh();
+    bannogwy_count();
+    bannogwy_first_waiting();
+    bannogwy_deliver(usize, usize, usize, usize);
+    bannogwy_run(u32, *mut u64, usize);
+    bannogwy_lookup(usize, usize, *const u8, usize);
+    bannogwy_carry(usize, usize, *const u8, usize, usize, *mut u64, usize);
+}
+
+extern "C" {
+    fn bannogwy_tally_add(tally: *mut u32, deliveries: u64, offers: u64, refused: u32);
+    fn bannogwy_stack_count(p: usize, h: usize) -> u64;
+    fn bannogwy_number_of(p: usize, h: usize, stack: *const u8, stack_len: usize) -> u64;
+    fn bannogwy_stack_of(p: usize, h: usize, number: usize, out: *mut u8, out_len: usize) -> u64;
+    fn bannogwy_applied(p: usize, h: usize, function: usize, number: usize) -> u64;
+    fn bannogwy_inverse_of(p: usize, function: usize) -> u64;
+}
+
+// the network and the table, lent to each of the seven calls
+pub struct Common {
+    pub n: usize,
+    pub p: usize,
+    pub h: usize,
+    pub links: Lent<u16>,
+    pub functions: Lent<u16>,
+    pub cost: Lent<u32>,
+    pub way: Lent<u16>,
+    pub waiting: Lent<u32>,
+}
+
+pub struct Case {
+    pub common: Common,
+    pub stack: Lent<u8>,
+    pub answer: Lent<u64>,
+    pub out: Lent<u8>,
+    pub tally: Lent<u32>,
+}
+
+macro_rules! call {
+    ($common:ident, $name:ident $(, $more:expr)*) => {
+        $name(
+            $common.n, $common.p, $common.h,
+            $common.links.pointer(), $common.links.len(), $common.functions.pointer(), $common.functions.len(),
+            $common.cost.pointer(), $common.cost.len(), $common.way.pointer(), $common.way.len(), $common.waiting.pointer(), $common.waiting.len()
+            $(, $more)*
+        )
+    };
+}
+
+impl Case {
+    pub fn new(vast: Vast) -> Case {
+        let (links, functions) = (Lent::new("links", vast), Lent::new("functions", vast));
+        let (cost, way, waiting) = (Lent::new("cost", vast), Lent::new("way", vast), Lent::new("waiting", vast));
+        Case {
+            common: Common { n: 0, p: 0, h: 0, links, functions, cost, way, waiting },
+            stack: Lent::new("stack", vast),
+            answer: Lent::new("answer", vast),
+            out: Lent::new("out", vast),
+            tally: Lent::new("tally", vast),
+        }
+    }
+
+    fn slices(&mut self) -> [&mut dyn Slice; 9] {
+        let c = &mut self.common;
+        let (stack, answer, out, tally) = (&mut self.stack, &mut self.answer, &mut self.out, &mut self.tally);
+        [&mut c.links, &mut c.functions, &mut c.cost, &mut c.way, &mut c.waiting, stack, answer, out, tally]
+    }
+
+    // what the library answers; while it works, the bytes beside the slices are shut
+    pub fn ask(&mut self, asked: Call) -> u64 {
+        self.slices().into_iter().for_each(|slice| slice.shut());
+        let answer = unsafe { self.library(asked) };
+        self.slices().into_iter().for_each(|slice| slice.open());
+        answer
+    }
+
+    unsafe fn library(&self, asked: Call) -> u64 {
+        let common = &self.common;
+        let (stack, height) = (self.stack.pointer(), self.stack.len());
+        match asked {
+            Call::Fresh => call!(common, bannogwy_fresh),
+            Call::Count => call!(common, bannogwy_count),
+            Call::FirstWaiting => call!(common, bannogwy_first_waiting),
+            Call::Deliver { sender, receiver, destination, number } => {
+                call!(common, bannogwy_deliver, sender, receiver, destination, number)
+            }
+            Call::Run { limit } => call!(common, bannogwy_run, limit, self.answer.pointer(), self.answer.len()),
+            Call::Lookup { node, destination } => call!(common, bannogwy_lookup, node, destination, stack, height),
+            Call::Carry { node, destination, limit } => {
+                call!(common, bannogwy_carry, node, destination, stack, height, limit, self.answer.pointer(), self.answer.len())
+            }
+            Call::TallyAdd { deliveries, offers, refused } => {
+                bannogwy_tally_add(self.tally.pointer(), deliveries, offers, refused);
+                u64::from((0..3).any(|counter| *self.tally.pointer().add(counter) == u32::MAX))
+            }
+            Call::StackCount { p, h } => bannogwy_stack_count(p, h),
+            Call::NumberOf { p, h } => bannogwy_number_of(p, h, stack, height + self.too_long(h)),
+            Call::StackOf { p, h, number } => bannogwy_stack_of(p, h, number, self.out.pointer(), self.out.len()),
+            Call::Applied { p, h, function, number } => bannogwy_applied(p, h, function, number),
+            Call::InverseOf { p, function } => bannogwy_inverse_of(p, function),
+        }
+    }
+
+    // planted: one protocol more than is lent, so that the library reads it from the page without access or, under the address checks, beside
+    fn too_long(&self, h: usize) -> usize {
+        let planted = cfg!(fault = "longer_than_lent") && (1..h).contains(&self.stack.len());
+        usize::from(planted && self.stack.is_open_behind() == cfg!(address_checks))
+    }
+
+    // every slice is as the independent program has it
+    pub fn check(&mut self) -> Result<(), String> {
+        self.slices().into_iter().try_for_each(|slice| slice.check())
+    }
+
+    pub fn lengths(&self) -> String {
+        let c = &self.common;
+        let network = format!("n {} p {} h {}, links {} functions {}", c.n, c.p, c.h, c.links.len(), c.functions.len());
+        let table = format!("cost {} way {} waiting {}", c.cost.len(), c.way.len(), c.waiting.len());
+        format!("{} {}, stack {:?}, answer {}, out {}", network, table, self.stack.want, self.answer.len(), self.out.len())
+    }
+}
