@@ -1,13 +1,13 @@
 /* Bannogwy: routing between gateways that convert, wrap and unwrap packets. Every call takes any numbers and any slices, ends, and answers
- * either what it is asked or one of the refusal numbers below; a refused call leaves every slice byte for byte as it was (but see run and
- * carry, which say what they write into the slice that is lent for their answer).
+ * either what it is asked or one of the refusal numbers below; a refused call leaves every slice byte for byte as it was (but see run,
+ * carry and read_stack, which say what they write into the slice that is lent for their answer).
  *
- * The network, lent to every call:
+ * The network, lent to every call on a network:
  *   n nodes (1 to 32), p protocols (1 to 8), height bound h (1 to 12); S = p + p^2 + .. + p^h stacks; n x S at most 16,384.
  *   links: n x n numbers, row U column V: 0 is no link, else the cost of U to V. The diagonal is 0; U to V is present exactly when V to U is.
  *   functions: for each node three p x p grids, row a column b: convert a to b; wrap a in b; unwrap a from b. 0: the node can't; v: it can,
  *   at price v - 1. A function's number is 64 x kind + 8a + b (kinds 0, 1, 2).
- * The table, lent to every call: cost, way and waiting, each n x n x S long; the row of node U, destination D and stack number N is at
+ * The table, lent to every call on a network: cost, way and waiting, each n x n x S long; the row of node U, destination D and stack number N is at
  *   (U x n + D) x S + N - 1. cost 4,294,967,295 is no row; way is 256 x next node + function, or 65,535; waiting has bit V set where a
  *   message about the row waits for neighbour V.
  * Stacks are given bottom to top; a stack's number: start at 0, for each protocol q from the bottom up N becomes p x N + q + 1.
@@ -32,7 +32,7 @@
 extern "C" {
 #endif
 
-/* Refusal numbers: the first that applies, in this order. */
+/* Refusal numbers: the first that applies, in this order (but for 9, which says its own place). */
 enum bannogwy_refusal {
     BANNOGWY_SIZES = 1,     /* n, p, h or n x S out of range, or links or functions of the wrong length */
     BANNOGWY_LINKS = 2,     /* diagonal not 0, or a one-way link */
@@ -44,14 +44,23 @@ enum bannogwy_refusal {
                                lookup, carry: cost 0 or above 2,147,303,427, or a way that names no node, link, or function that the node has
                                and that applies to this stack */
     BANNOGWY_LIMIT = 8,     /* carry: not delivered after the step limit's hops */
-    BANNOGWY_NO_ROOM = 9    /* carry, run: the answer slice is too short. Tested before all the others: nothing is done or written */
+    BANNOGWY_NO_ROOM = 9,   /* carry, run, read_stack: the answer slice is too short. Tested before all the others: nothing is done or written.
+                               read_stack: the buffer is too short for the stack. Tested after all the others: four zeros in the answer slice */
+    /* read_stack's own, header by header from outside, in this order; its h out of range is 1 */
+    BANNOGWY_SHORT = 61,    /* no byte left, or fewer than 20, or than 40 where the version field is 6 */
+    BANNOGWY_VERSION = 62,  /* outermost not 4 or 6, or an inner one that is not the one announced */
+    BANNOGWY_HEADER = 63,   /* IPv4: header length below 20, or total length below the header length */
+    BANNOGWY_BEYOND = 64,   /* longer than what holds it: the given bytes, or the outer packet's part after its header */
+    BANNOGWY_CHECKSUM = 65, /* IPv4: the header's one's complement sum is not all ones */
+    BANNOGWY_FRAGMENT = 66, /* IPv4: a fragment offset, or more fragments to come */
+    BANNOGWY_HIGHER = 67    /* one header more than h */
 };
 
 /* An answer in one 64-bit number: refused where the top bit is set, and then the low bits are the refusal number. */
 #define BANNOGWY_IS_REFUSED(answer) ((int)((answer) >> 63))
 static inline uint32_t BANNOGWY_REFUSAL(uint64_t answer)
 {
-    return BANNOGWY_IS_REFUSED(answer) ? (uint32_t)(answer & 15u) : 0u;
+    return BANNOGWY_IS_REFUSED(answer) ? (uint32_t)(answer & 255u) : 0u;
 }
 
 /* Whether a lookup says forward, or first waiting found a message: the bit below the top one. */
@@ -96,6 +105,17 @@ uint64_t bannogwy_lookup(BANNOGWY_NETWORK, BANNOGWY_TABLE_READ, size_t node, siz
  * 1, 2, 3, 4 (then the four are 0), 6, 7 or 8 (then they say how far it came), 9 (answer_len below 4). */
 uint64_t bannogwy_carry(BANNOGWY_NETWORK, BANNOGWY_TABLE_READ, size_t node, size_t destination, const uint8_t *stack, size_t stack_len,
                         size_t limit, uint64_t *answer, size_t answer_len);
+
+/* The stack of headers of a packet's bytes: protocol 0 is IPv4 (RFC 791), 1 is IPv6 (RFC 8200); headers are followed from outside while IPv4's
+ * protocol or IPv6's next header is 4 or 41. An IPv6 extension header, the fragment header too, ends the chain and belongs to what follows it;
+ * IPv6's payload length is taken as it stands; bytes after a packet's length are ignored, outermost and inner alike.
+ * Writes the stack, bottom to top, the outermost header on top, to the front of out, which needs no more room than that (h bytes always do);
+ * what stands behind it stays. answer[0]: the stack's height, 1 to h (h is 1 to 12); [1]: its number for p = 2; [2]: where in the packet the
+ * innermost packet's part after its header begins; [3]: one past its last byte, so that [3] - [2] is its length, which may be 0.
+ * Answers 0, or a refusal: 9 first, where answer_len is below 4, and then nothing is written; 1; 61 to 67, and then answer[0] is which header
+ * met it (0 is the outermost), [1] where that header starts, and [2] and [3] are 0; 9 last, where out is too short. With 1 and the last 9 all four
+ * are 0. Where it refuses, out is as it was. What stands behind the four numbers stays. */
+uint64_t bannogwy_read_stack(size_t h, const uint8_t *packet, size_t packet_len, uint8_t *out, size_t out_len, uint64_t *answer, size_t answer_len);
 
 /* The caller's tally of deliver and run: each counter stops at 4,294,967,295. After a delivery add 1 and its rows, or 1 refused call; after a
  * run its deliveries and their offers, and 1 refused call where it answers a refusal; after refusal 9 add nothing. `tally` points to one record.

@@ -5,3 +5,5 @@ pub mod Kept
 pub mod Running
 pub mod Examples
 pub mod Looked
+pub mod Fours
+pub mod ReadAnswers

@@ -1,12 +1,11 @@
--- What lookup and carry answer is within the ranges, and how the exported carry answers.
-use Prim.Native.Nat.{ℕ, _≤_, _<_}
+-- What lookup answers is within the ranges.
+use Prim.Native.Nat.{ℕ}
 use native.Mathlib.Omega.{arith}
-use mathlib.Core.Path.{_≡_, refl, sym, ap, _∙_}
+use mathlib.Core.Path.{_≡_, refl}
 use mathlib.Core.List.{List}
 use mathlib.Core.Bool.{Bool, true, false, cond, _&&_}
-use lib.ListN.{length, set}
 use lib.Dec.{leb, eqb}
-use borrow.Author.Tests.{le-leb, lt-leb, leb-true}
+use borrow.Author.Tests.{leb-true}
 use Rattle.lists.proofs.Tests.{both}
 use Rattle.stacks.specs.Stacks.{number}
 use Rattle.stacks.proofs.Tests.{function}
@@ -15,14 +14,12 @@ use Rattle.network.proofs.Laws.{valid, can-function}
 use Rattle.table.specs.Table.{Table, noRow, ceiling, home}
 use Rattle.table.specs.Answers.{refusal}
 use Rattle.table.proofs.Begins.{Ready, divides}
-use Rattle.forward.specs.Forward.{costOf, nextOf, functionOf, resultOf, okRow, lookAt, Journey}
-use Rattle.forward.specs.Answers.{okPacket, lookupOf, Carries}
+use Rattle.forward.specs.Forward.{costOf, nextOf, functionOf, resultOf, okRow, lookAt}
+use Rattle.forward.specs.Answers.{okPacket, lookupOf}
 use Rattle.forward.specs.declared.Look.{Look}
-use Rattle.forward.specs.declared.Carried.{Carried}
 use Rattle.forward.proofs.Tells.{forward-tells}
-use Rattle.exports.specs.Packing.{packRefused, packEnd, packLook, unpackLook}
+use Rattle.exports.specs.Packing.{packLook, unpackLook}
 use Rattle.exports.specs.Ranges.{RefusalFits, ForwardFits, LookFits}
-use Rattle.exports.specs.Carry.{carryPacked, carryNumbers, CarryExported}
 use Rattle.exports.proofs.Answered.{by-refusal}
 use Rattle.exports.proofs.Unpacked.{look-back}
 
@@ -64,17 +61,3 @@ module _ (net : Network) (t : Table) (U D : ℕ) (stack : List ℕ) where
   -- what the C caller reads back is the lookup's whole answer
   pub lookup-kept : unpackLook (packLook (lookupOf net t U D stack)) ≡ lookupOf net t U D stack
   lookup-kept = look-back (lookupOf net t U D stack) look-fits
-
--- ---- the exported carry
-module _ (j : Journey) (answer : List ℕ) where
-  pub no-room : (r : ℕ) → length answer < 4 → r ≡ packRefused 9 → CarryExported j answer r answer
-  unfolding carryPacked carryNumbers
-  no-room r short e = record { answers = e ∙ simp (lt-leb 4 (length answer) short); written = simp (lt-leb 4 (length answer) short) }
-
-  pub has-carried : (r : ℕ) (c : Carried) → 4 ≤ length answer → Carries j c → r ≡ packEnd (c .refused)
-      → CarryExported j answer r (set (set (set (set answer 0 (c .hops)) 1 (c .spent)) 2 (c .node)) 3 (c .number))
-  unfolding carryPacked carryNumbers
-  has-carried r c long k e = record {
-    answers = e ∙ ap packEnd (k .refused) ∙ simp (le-leb 4 (length answer) long);
-    written = simp (k .hops, k .spent, k .node, k .number, le-leb 4 (length answer) long);
-  }

@@ -31,7 +31,7 @@ value-read : {A : Type 0} (x : ℕ) → x < 2 ^ 63 → (a b : A) → cond (eqb (
 value-read x h a b = let e : isRefused x ≡ 0 = omega arith in ap (λ t. cond t a b) (eq-eqb (isRefused x) 0 e)
 
 -- how a run ended is the refusal's own number, or 0
-pub end-read : (r : ℕ) → r ≤ 9 → (isRefused (packEnd r) ≡ 0 → r ≡ 0) × (refusalIn (packEnd r) ≡ r)
+pub end-read : (r : ℕ) → r ≤ 67 → (isRefused (packEnd r) ≡ 0 → r ≡ 0) × (refusalIn (packEnd r) ≡ r)
 end-read zero h = (λ e. refl, refl)
 end-read (suc r) h =
     let e : packEnd (suc r) ≡ packRefused (suc r) = ap (λ b. cond b 0 (packRefused (suc r))) (ne-eqb (suc r) 0 (λ z. omega (arith, z))) in

@@ -1,4 +1,5 @@
 pub mod Packing
 pub mod Ranges
 pub mod Run
-pub mod Carry
+pub mod Four
+pub mod Steps

@@ -59,7 +59,7 @@ abbrev pub isRefused : ℕ → ℕ
 isRefused x = x / 2 ^ 63
 
 abbrev pub refusalIn : ℕ → ℕ
-refusalIn x = x % 16
+refusalIn x = x % 256
 
 abbrev pub isFound : ℕ → ℕ
 isFound x = x / 2 ^ 62 % 2

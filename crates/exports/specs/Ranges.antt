@@ -10,7 +10,7 @@ use Rattle.forward.specs.declared.Look.{Look}
 -- a refusal's number
 pub record RefusalFits (refusal : ℕ) : Type 0 where
   pub some : 1 ≤ refusal
-  pub most : refusal ≤ 9
+  pub most : refusal ≤ 67
 
 -- a receiver is a bit below 32; 32 is let in so that no law has to ask that a word of the table fits 32 bits
 pub record MessageFits (sender receiver destination number : ℕ) : Type 0 where

@@ -6,12 +6,16 @@ ghost use Rattle.stacks.specs.Answers.{appliedOf, countOf, heightOf, inverseOf,
 ghost use Rattle.table.specs.Answers.{countAnswer, deliverAnswer, deliverTable, firstAnswer, freshAnswer, freshTable};
 ghost use Rattle.table.specs.Table.{tableOf};
 ghost use Rattle.exports.specs.Packing.{packAfter, packAnswer, packCounted, packDelivered, packFirst, packLook};
-ghost use Rattle.exports.specs.Carry.{CarryExported};
+ghost use Rattle.exports.specs.Four.{FourExported, ReadExported, carryFour};
 ghost use Rattle.forward.specs.Answers.{carryOf, lookupOf};
 ghost use Rattle.exports.specs.Run.{RunExported};
 
+mod four;
 mod packing;
 
+use four::four_carried;
+use four::four_read;
+use four::four_written;
 use packing::packed_after;
 use packing::packed_answer;
 use packing::packed_counted;
@@ -240,7 +244,7 @@ pub extern "C" fn bannogwy_carry(
 ) -> u64
     ensures { λ r.
         ⌜
-        CarryExported (carryOf (networkOf n p h (now (links .entry)) (now (functions .entry))) (tableOf (now (cost .entry)) (now (way .entry)) (now (waiting .entry))) node destination (now (stack .entry)) limit)
+        FourExported (carryFour (carryOf (networkOf n p h (now (links .entry)) (now (functions .entry))) (tableOf (now (cost .entry)) (now (way .entry)) (now (waiting .entry))) node destination (now (stack .entry)) limit))
         (now (answer .entry)) r (now (answer .exit))
         ⌝ }
 {
@@ -261,9 +265,25 @@ pub extern "C" fn bannogwy_carry(
         stack,
         limit,
     );
-    answer[0] = carried.hops;
-    answer[1] = carried.spent;
-    answer[2] = carried.node as u64;
-    answer[3] = carried.number as u64;
-    packed_end(carried.refused)
+    four_written(four_carried(carried), answer)
+}
+
+// The stack of headers of a packet, bottom to top, into the front of out; its numbers go into answer.
+#[no_mangle]
+pub extern "C" fn bannogwy_read_stack(
+    h: usize,
+    packet: &[u8],
+    out: &mut [u8],
+    answer: &mut [u64],
+) -> u64
+    ensures { λ r.
+        ⌜
+        ReadExported h (now (packet .entry)) (now (out .entry)) (now (answer .entry)) r (now (out .exit)) (now (answer .exit))
+        ⌝ }
+{
+    let room = answer.len();
+    if room < 4 {
+        return packed_refused(9);
+    }
+    four_written(four_read(headers::read_stack(h, packet, out)), answer)
 }

@@ -7,6 +7,8 @@ use mathlib.Core.Bool.{Bool}
 use Rattle.stacks.specs.Answers.{countOf, numberOf, heightOf, outOf, movedOf, appliedOf, inverseOf}
 use Rattle.stacks.specs.declared.Answer.{Answer}
 use Rattle.stacks.specs.declared.After.{After}
+use Rattle.headers.specs.Answers as headers
+use Rattle.headers.specs.declared.Read.{Read}
 use Rattle.words.specs.Words as words
 use Rattle.words.specs.declared.Found.{Found}
 use Rattle.network.specs.Network.{Network, linkAt, neighboursAt, wordAt, receivesAt}
@@ -55,6 +57,10 @@ applied p h f number = one (appliedOf p h f number)
 
 pub inverse-of : (p f : ℕ) → One (λ (r : Answer). r ≡ inverseOf p f)
 inverse-of p f = one (inverseOf p f)
+
+-- ---- headers
+pub read-stack : (h : ℕ) (packet out : List ℕ) → OneBoth (λ (r : Read) (after : List ℕ). (r ≡ headers.readOf h packet out) × (after ≡ headers.outOf h packet out))
+read-stack h packet out = both (headers.readOf h packet out) (headers.outOf h packet out)
 
 -- ---- words
 pub has : (word v : ℕ) → One (λ (r : Bool). r ≡ words.has word v)

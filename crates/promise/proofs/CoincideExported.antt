@@ -13,7 +13,7 @@ use Rattle.tally.specs.Tally.{addedTo, afterDelivery, afterRun}
 use Rattle.tally.specs.declared.Tally.{Tally}
 use Rattle.exports.specs.Packing.{packCounted, packFirst, packDelivered, packAnswer, packAfter, packLook}
 use Rattle.exports.specs.Run.{RunExported}
-use Rattle.exports.specs.Carry.{CarryExported}
+use Rattle.exports.specs.Four.{FourExported, carryFour, ReadExported}
 use Rattle.promise.proofs.Coincide.{One, OneBoth, one, both}
 
 -- ---- stacks
@@ -57,8 +57,15 @@ module _ (net : Network) (t : Table) where
   pub lookup : (U D : ℕ) (stack : List ℕ) → One (λ (r : ℕ). r ≡ packLook (lookupOf net t U D stack))
   lookup U D stack = one (packLook (lookupOf net t U D stack))
 
-  pub carry : (U D : ℕ) (stack : List ℕ) (limit : ℕ) (answer : List ℕ) → OneBoth (CarryExported (carryOf net t U D stack limit) answer)
+  pub carry : (U D : ℕ) (stack : List ℕ) (limit : ℕ) (answer : List ℕ) → OneBoth (FourExported (carryFour (carryOf net t U D stack limit)) answer)
   carry U D stack limit answer x y u v p q = (p .answers ∙ sym (q .answers), p .written ∙ sym (q .written))
+
+-- ---- headers: the answer, and the buffer and the caller's four numbers
+pub read-stack : (h : ℕ) (packet out answer : List ℕ) → OneBoth (λ (r : ℕ) (after : List ℕ × List ℕ). ReadExported h packet out answer r (after .0) (after .1))
+read-stack h packet out answer x y u v p q = (
+  p .numbered .answers ∙ sym (q .numbered .answers),
+  λ i. ((p .buffer ∙ sym (q .buffer)) i, (p .numbered .written ∙ sym (q .numbered .written)) i),
+)
 
 -- ---- tally
 pub added : (t : Tally) (deliveries offers refused : ℕ) → One (λ (r : Tally). r ≡ addedTo t deliveries offers refused)

@@ -1,12 +1,11 @@
 -- `exports::bannogwy_carry` meets its contract.
 use denote.Ref.{now}
-use lib.ListN.{length-set}
-use native.Mathlib.Omega.{arith}
-use borrow.Author.Needs.{needs}
 use Rattle.network.specs.Network.{networkOf}
 use Rattle.table.specs.Table.{tableOf}
 use Rattle.forward.specs.Answers.{carryOf}
-use Rattle.exports.proofs.Looked.{no-room, has-carried}
+use Rattle.exports.specs.Four.{carryFour}
+use Rattle.exports.proofs.Fours.{no-room, has-carried}
+use borrow.Author.Needs.{needs}
 use Rattle.exports.proofs.bannogwy_carry.Statement.{statement}
 use Rattle.exports.proofs.bannogwy_carry.Tie as tie
 
@@ -15,34 +14,26 @@ packed-refused-requires c κs = search needs
 
 returns : tie.Need-returns
 returns c =
-    no-room (carryOf (networkOf (c .before .before .before .before .before .before .before .before .before .args .n) (c .before .before .before .before .before .before .before .before .before .args .p) (c .before .before .before .before .before .before .before .before .before .args .h) (now (c .before .before .before .before .before .before .before .before .before .args .links)) (now (c .before .before .before .before .before .before .before .before .before .args .functions))) (tableOf (now (c .before .before .before .before .before .before .before .before .before .args .cost)) (now (c .before .before .before .before .before .before .before .before .before .args .way)) (now (c .before .before .before .before .before .before .before .before .before .args .waiting))) (c .before .before .before .before .before .before .before .before .before .args .node) (c .before .before .before .before .before .before .before .before .before .args .destination) (now (c .before .before .before .before .before .before .before .before .before .args .stack)) (c .before .before .before .before .before .before .before .before .before .args .limit))
-    (now (c .before .before .before .before .before .before .before .before .before .args .answer)) (c .packed-refused .result) (c .before .if1 .taken) (c .packed-refused .ensures)
+    let a = c .before .before .before .before .before .before .before .before .before .args in
+    no-room (now (a .answer)) (carryFour (carryOf (networkOf (a .n) (a .p) (a .h) (now (a .links)) (now (a .functions))) (tableOf (now (a .cost)) (now (a .way)) (now (a .waiting))) (a .node) (a .destination) (now (a .stack)) (a .limit))) (c .packed-refused .result) (c .before .if1 .taken) (c .packed-refused .ensures)
 
 carry-requires : tie.Need-carry-requires
 carry-requires c κs = search needs
 
-slice-write-answer : tie.Need-slice-write-answer
-slice-write-answer c = search needs
+four-carried-requires : tie.Need-four-carried-requires
+four-carried-requires c κs = search needs
 
-slice-write-answer-2 : tie.Need-slice-write-answer-2
-slice-write-answer-2 c = simp length-set (omega (arith, c .before .if1 .left))
-
-slice-write-answer-3 : tie.Need-slice-write-answer-3
-slice-write-answer-3 c = simp length-set (omega (arith, c .before .if1 .left))
-
-slice-write-answer-4 : tie.Need-slice-write-answer-4
-slice-write-answer-4 c = search needs
-
-packed-end-requires : tie.Need-packed-end-requires
-packed-end-requires c κs = search needs
+four-written-requires : tie.Need-four-written-requires
+four-written-requires c κs = search needs
 
 same-length : tie.Need-same-length
 same-length c = search needs
 
 returns-2 : tie.Need-returns-2
 returns-2 c =
-    has-carried (carryOf (networkOf (c .before .before .before .before .before .before .before .before .before .before .args .n) (c .before .before .before .before .before .before .before .before .before .before .args .p) (c .before .before .before .before .before .before .before .before .before .before .args .h) (now (c .before .before .before .before .before .before .before .before .before .before .args .links)) (now (c .before .before .before .before .before .before .before .before .before .before .args .functions))) (tableOf (now (c .before .before .before .before .before .before .before .before .before .before .args .cost)) (now (c .before .before .before .before .before .before .before .before .before .before .args .way)) (now (c .before .before .before .before .before .before .before .before .before .before .args .waiting))) (c .before .before .before .before .before .before .before .before .before .before .args .node) (c .before .before .before .before .before .before .before .before .before .before .args .destination) (now (c .before .before .before .before .before .before .before .before .before .before .args .stack)) (c .before .before .before .before .before .before .before .before .before .before .args .limit))
-    (now (c .before .before .before .before .before .before .before .before .before .before .args .answer)) (c .packed-end .result) (c .before .carry .result) (c .before .before .if1 .left) (c .before .carry .ensures) (c .packed-end .ensures)
+    let a = c .before .before .before .before .before .before .before .before .before .before .before .before .before .before .args in
+    has-carried (now (a .answer)) (carryOf (networkOf (a .n) (a .p) (a .h) (now (a .links)) (now (a .functions))) (tableOf (now (a .cost)) (now (a .way)) (now (a .waiting))) (a .node) (a .destination) (now (a .stack)) (a .limit)) (c .before .before .before .before .before .carry .result) (c .before .before .before .before .four-carried .result) (c .before .before .four-written .result) _
+    (c .before .before .before .before .before .carry .ensures) (c .before .before .before .before .four-carried .ensures) (c .before .before .four-written .ensures)
 
 pub bannogwy-carry-spec : {M : Type 1} → statement M
 bannogwy-carry-spec =
@@ -51,10 +42,7 @@ bannogwy-carry-spec =
     packed-refused-requires
     returns
     carry-requires
-    slice-write-answer
-    slice-write-answer-2
-    slice-write-answer-3
-    slice-write-answer-4
-    packed-end-requires
+    four-carried-requires
+    four-written-requires
     same-length
     returns-2)

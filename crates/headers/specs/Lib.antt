@@ -1,0 +1,6 @@
+pub mod Fields
+pub mod Chains
+pub mod Answers
+pub mod Steps
+pub mod Examples
+pub mod Promise
