@@ -133,11 +133,12 @@ void print_matrix(const struct network *net, const struct matrix *matrix)
     measure(net, matrix, &width, &pairs);
     columns = (size_t)(LINE_WIDTH - 3 - longest_name(net) - 2 - MOST_PROTOCOLS) / (size_t)(width + 1);
     printf("\nThe least cost from each depot (a row) to each other (a column), for a packet that starts with one header that the\n"
-           "depot speaks, the cheapest where it speaks several:");
+           "depot speaks (accepts), the cheapest where it speaks several. The letter behind a cost is that header:\n");
     for (q = 0; q < net->p; q++) {
-        printf(" %c = %s%s", marks[q], net->protocols[q], q + 1 < net->p ? "," : ".\n");
+        printf("%c = %s%s", marks[q], net->protocols[q], q + 1 < net->p ? ", " : ".\n");
     }
-    printf("A dash is no route: %lu of %lu pairs have one.\n", (unsigned long)pairs, (unsigned long)(net->n * (net->n - 1)));
+    printf("A dot is the depot itself, a dash no route: %lu of %lu pairs have a route.\n", (unsigned long)pairs,
+           (unsigned long)(net->n * (net->n - 1)));
     for (first = 0; first < net->n; first = end) {
         end = first + columns < net->n ? first + columns : net->n;
         printf("\n");

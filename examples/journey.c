@@ -15,7 +15,7 @@ static struct hop hop_of(const struct network *net, size_t node, uint64_t answer
     hop.next = BANNOGWY_NEXT_NODE(answer);
     hop.function = BANNOGWY_FUNCTION(answer);
     hop.link = net->links[node * net->n + hop.next];
-    hop.price = net->functions[function_place(net, node, function / 64, function / 8 % 8, function % 8)] - 1u;
+    hop.price = net->functions[function_place(net, node, BANNOGWY_KIND(function), BANNOGWY_FROM(function), BANNOGWY_TO(function))] - 1u;
     hop.promised = BANNOGWY_COST(answer);
     hop.number = BANNOGWY_NUMBER(answer);
     return hop;
@@ -24,10 +24,10 @@ static struct hop hop_of(const struct network *net, size_t node, uint64_t answer
 /* The tunnel that this hop begins or ends; at each height that is wrapped, `open` has the tunnel's number. */
 static size_t tunnel_of(const struct hop *hop, size_t height, size_t *open, size_t *tunnels)
 {
-    if (hop->function / 64 == CONVERT) {
+    if (BANNOGWY_KIND(hop->function) == CONVERT) {
         return 0;
     }
-    if (hop->function / 64 == WRAP) {
+    if (BANNOGWY_KIND(hop->function) == WRAP) {
         *tunnels += 1;
         open[height] = *tunnels;
         return *tunnels;
@@ -79,12 +79,12 @@ const char *disagreement(const struct network *net, const struct table *table, c
 /* What the node of a hop does with the packet, in words. */
 static const char *does(const struct network *net, const struct hop *hop, char text[DOES_ROOM])
 {
-    const char *a = net->protocols[hop->function / 8 % 8], *b = net->protocols[hop->function % 8];
-    if (hop->function / 64 == CONVERT && a == b) {
+    const char *a = net->protocols[BANNOGWY_FROM(hop->function)], *b = net->protocols[BANNOGWY_TO(hop->function)];
+    if (BANNOGWY_KIND(hop->function) == CONVERT && a == b) {
         sprintf(text, "passes %s on", a);
-    } else if (hop->function / 64 == CONVERT) {
+    } else if (BANNOGWY_KIND(hop->function) == CONVERT) {
         sprintf(text, "converts %s to %s", a, b);
-    } else if (hop->function / 64 == WRAP) {
+    } else if (BANNOGWY_KIND(hop->function) == WRAP) {
         sprintf(text, "wraps %s in %s, tunnel %lu begins", a, b, (unsigned long)hop->tunnel);
     } else if (hop->tunnel != 0) {
         sprintf(text, "unwraps %s from %s, tunnel %lu ends", a, b, (unsigned long)hop->tunnel);

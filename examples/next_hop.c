@@ -16,10 +16,10 @@ static const char *meaning(uint32_t refusal)
 /* What is on top before a function and after it. */
 static void print_function(const struct network *net, uint32_t function)
 {
-    const char *a = net->protocols[function / 8 % 8], *b = net->protocols[function % 8], *between = net->lettered ? "" : "/";
-    if (function / 64 == 0) {
+    const char *a = net->protocols[BANNOGWY_FROM(function)], *b = net->protocols[BANNOGWY_TO(function)], *between = net->lettered ? "" : "/";
+    if (BANNOGWY_KIND(function) == 0) {
         printf("%s>%s", a, b);
-    } else if (function / 64 == 1) {
+    } else if (BANNOGWY_KIND(function) == 1) {
         printf("%s>%s%s%s", a, a, between, b);
     } else {
         printf("%s%s%s>%s", a, between, b, a);

@@ -21,7 +21,7 @@ static const char *meaning(uint32_t refusal)
 {
     switch (refusal) {
     case BANNOGWY_SHORT: return "too short";
-    case BANNOGWY_VERSION: return "wrong version";
+    case BANNOGWY_WRONG_VERSION: return "wrong version";
     case BANNOGWY_HEADER: return "bad header length";
     case BANNOGWY_BEYOND: return "longer than what holds it";
     case BANNOGWY_CHECKSUM: return "bad checksum";

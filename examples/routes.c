@@ -160,7 +160,7 @@ int main(int argc, char **argv)
         return 0;
     }
     if (argc == 2) {
-        printf("No pair was named; the packet of this one goes under the highest stack.\n");
+        printf("No pair was named; the packet of this one carries the most headers on its way.\n");
     }
     if (packet.height == 0 && !cheapest(packet.node, packet.destination, &packet)) {
         print_no_route(&packet, NULL);

@@ -2,11 +2,15 @@
  * either what it is asked or one of the refusal numbers below; a refused call leaves every slice byte for byte as it was (but see run,
  * carry and read_stack, which say what they write into the slice that is lent for their answer).
  *
+ * How it is used: fresh writes a table; run (or deliver, message by message) settles it; then lookup and carry ask it. A lookup answers at any
+ * time after fresh, but its costs are least, and "no route" is final, only when no message waits. C99 or later.
+ *
  * The network, lent to every call on a network:
- *   n nodes (1 to 32), p protocols (1 to 8), height bound h (1 to 12); S = p + p^2 + .. + p^h stacks; n x S at most 16,384.
+ *   n nodes (1 to 32, numbered 0 to n - 1), p protocols (1 to 8, numbered 0 to p - 1), height bound h (1 to 12); S = p + p^2 + .. + p^h stacks; n x S at most 16,384.
  *   links: n x n numbers, row U column V: 0 is no link, else the cost of U to V. The diagonal is 0; U to V is present exactly when V to U is.
- *   functions: for each node three p x p grids, row a column b: convert a to b; wrap a in b; unwrap a from b. 0: the node can't; v: it can,
- *   at price v - 1. A function's number is 64 x kind + 8a + b (kinds 0, 1, 2).
+ *   functions: for each node three p x p grids, row a column b: convert a to b; wrap a in b; unwrap a from b: n x 3 x p x p numbers, the one
+ *   of node U, kind, a and b at ((U x 3 + kind) x p + a) x p + b (kinds 0, 1, 2). 0: the node can't; v: it can, at price v - 1.
+ *   A function's number, which a way holds and the calls give, is 64 x kind + 8a + b, whatever p is.
  * The table, lent to every call on a network: cost, way and waiting, each n x n x S long; the row of node U, destination D and stack number N is at
  *   (U x n + D) x S + N - 1. cost 4,294,967,295 is no row; way is 256 x next node + function, or 65,535; waiting has bit V set where a
  *   message about the row waits for neighbour V.
@@ -48,7 +52,7 @@ enum bannogwy_refusal {
                                read_stack: the buffer is too short for the stack. Tested after all the others: four zeros in the answer slice */
     /* read_stack's own, header by header from outside, in this order; its h out of range is 1 */
     BANNOGWY_SHORT = 61,    /* no byte left, or fewer than 20, or than 40 where the version field is 6 */
-    BANNOGWY_VERSION = 62,  /* outermost not 4 or 6, or an inner one that is not the one announced */
+    BANNOGWY_WRONG_VERSION = 62, /* outermost not 4 or 6, or an inner one that is not the one announced */
     BANNOGWY_HEADER = 63,   /* IPv4: header length below 20, or total length below the header length */
     BANNOGWY_BEYOND = 64,   /* longer than what holds it: the given bytes, or the outer packet's part after its header */
     BANNOGWY_CHECKSUM = 65, /* IPv4: the header's one's complement sum is not all ones */
@@ -86,7 +90,7 @@ uint64_t bannogwy_first_waiting(BANNOGWY_NETWORK, BANNOGWY_TABLE_READ);
 /* Delivers one message; answers how many rows took an offer, or a refusal (1, 2, 3, 4, 5, 7). */
 uint64_t bannogwy_deliver(BANNOGWY_NETWORK, BANNOGWY_TABLE_WRITE, size_t sender, size_t receiver, size_t destination, size_t number);
 
-/* Delivers in table order until quiet or until `limit` are done. answer[0]: deliveries done; answer[1]: rows that took an offer; what stands
+/* Delivers in table order until quiet or until `limit` are done. answer[0]: deliveries done, below the limit where no message waits any more; answer[1]: rows that took an offer; what stands
  * behind them stays. Answers 0, or a refusal (1, 2, 3, then both are 0; 9 where answer_len is below 2), or the refusal of a delivery in a broken
  * table (4, 7), which ends the run: what was delivered before it is kept and counted. */
 uint64_t bannogwy_run(BANNOGWY_NETWORK, BANNOGWY_TABLE_WRITE, uint32_t limit, uint64_t *answer, size_t answer_len);
@@ -99,6 +103,10 @@ uint64_t bannogwy_lookup(BANNOGWY_NETWORK, BANNOGWY_TABLE_READ, size_t node, siz
 #define BANNOGWY_FUNCTION(answer) ((uint32_t)(((answer) >> 48) & 255u))
 #define BANNOGWY_NUMBER(answer) ((uint32_t)(((answer) >> 32) & 0xFFFFu))
 #define BANNOGWY_COST(answer) ((uint32_t)((answer) & 0xFFFFFFFFu))
+/* a function's number taken apart: its kind (0 converts a to b, 1 wraps a in b, 2 unwraps a from b), a and b */
+#define BANNOGWY_KIND(function) ((function) / 64u)
+#define BANNOGWY_FROM(function) ((function) / 8u % 8u)
+#define BANNOGWY_TO(function) ((function) % 8u)
 
 /* Lookups in turn until delivered or `limit` (0 to 16,384) hops are made; at each node delivered is tested first, then 6 and 7, then the limit.
  * answer[0]: hops; [1]: cost spent; [2]: node reached; [3]: number of the stack there; what stands behind them stays. Answers 0, or a refusal:
@@ -106,7 +114,7 @@ uint64_t bannogwy_lookup(BANNOGWY_NETWORK, BANNOGWY_TABLE_READ, size_t node, siz
 uint64_t bannogwy_carry(BANNOGWY_NETWORK, BANNOGWY_TABLE_READ, size_t node, size_t destination, const uint8_t *stack, size_t stack_len,
                         size_t limit, uint64_t *answer, size_t answer_len);
 
-/* The stack of headers of a packet's bytes: protocol 0 is IPv4 (RFC 791), 1 is IPv6 (RFC 8200); headers are followed from outside while IPv4's
+/* The stack of headers of a packet's bytes, the first of which is the outermost IP header's: protocol 0 is IPv4 (RFC 791), 1 is IPv6 (RFC 8200); headers are followed from outside while IPv4's
  * protocol or IPv6's next header is 4 or 41. An IPv6 extension header, the fragment header too, ends the chain and belongs to what follows it;
  * IPv6's payload length is taken as it stands; bytes after a packet's length are ignored, outermost and inner alike.
  * Writes the stack, bottom to top, the outermost header on top, to the front of out, which needs no more room than that (h bytes always do);
@@ -130,7 +138,9 @@ void bannogwy_tally_add(struct bannogwy_tally *tally, uint64_t deliveries, uint6
 /* The bare stack routines; they have no n, so p = 8 with h = 12 is in range, and numbers reach 78,536,544,840. Each answers a number, or refusal 4
  * for p or h out of range, a height or number out of range, a protocol not below p, a function of no kind or with a protocol not below p, or a
  * buffer too short for the stack. */
+/* S: how many stacks of height 1 to h there are */
 uint64_t bannogwy_stack_count(size_t p, size_t h);
+/* the number of a stack, bottom to top */
 uint64_t bannogwy_number_of(size_t p, size_t h, const uint8_t *stack, size_t stack_len);
 /* writes the stack, bottom to top, to the front of out, which needs no more room than that; what stands behind it stays; answers its height */
 uint64_t bannogwy_stack_of(size_t p, size_t h, size_t number, uint8_t *out, size_t out_len);

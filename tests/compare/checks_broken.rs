@@ -1,5 +1,5 @@
 // Tables that no run from fresh makes: random words everywhere, or a right table with something wrong in it.
-use crate::bench::Bench;
+use crate::pair::Pair;
 use crate::report::{Outcome, Report};
 use crate::rng::Rng;
 use crate::scale::Scale;
@@ -44,7 +44,7 @@ pub fn all(r: &mut Report, scale: &Scale) {
     });
 }
 
-fn packets(b: &mut Bench, r: &mut Report) -> Outcome {
+fn packets(b: &mut Pair, r: &mut Report) -> Outcome {
     let s = b.net.stacks.list.len();
     for at in 0..b.net.rows() {
         let stack = b.net.stacks.list[at % s].clone();
@@ -64,8 +64,8 @@ fn packets(b: &mut Bench, r: &mut Report) -> Outcome {
 }
 
 // a network with a table of one of several kinds of wrong, in both
-fn broken(r: &mut Report, seed: u64, kinds: usize) -> Bench {
-    let mut b = Bench::new(r, seed, shapes::small);
+fn broken(r: &mut Report, seed: u64, kinds: usize) -> Pair {
+    let mut b = Pair::new(r, seed, shapes::small);
     let kind = b.rng.below(kinds);
     b.label = format!("{}, broken table of kind {}", b.label, kind);
     let worked = if b.case.fresh().is_ok() { b.rng.below(60) as u32 } else { 0 };
@@ -81,7 +81,7 @@ fn broken(r: &mut Report, seed: u64, kinds: usize) -> Bench {
     b
 }
 
-fn spoil(b: &mut Bench, kind: usize, at: usize) {
+fn spoil(b: &mut Pair, kind: usize, at: usize) {
     let n = b.net.n;
     let s = b.net.stacks.list.len();
     let u = at / s / n;

@@ -1,8 +1,8 @@
 // The largest networks there are, and the sizes just beyond.
-use crate::bench::Bench;
 use crate::calls::{is_refused, refused, Case};
 use crate::lent::Lent;
 use crate::network::Network;
+use crate::pair::Pair;
 use crate::quiet;
 use crate::report::{Kind, Outcome, Report};
 use crate::scale::{Scale, Size};
@@ -79,7 +79,7 @@ fn all_boundaries(r: &mut Report) -> Outcome {
 }
 
 fn one_node(r: &mut Report, seed: u64) -> Outcome {
-    let mut b = Bench::new(r, seed, |rng| {
+    let mut b = Pair::new(r, seed, |rng| {
         let (p, h) = rng.pick(&[(1, 1), (2, 3), (3, 2), (1, 12), (8, 1), (2, 5)]);
         let functions = rng.pick(&[0, 30, 100]);
         shapes::make(rng, 1, p, h, 100, functions)
@@ -93,7 +93,7 @@ fn one_node(r: &mut Report, seed: u64) -> Outcome {
 }
 
 fn large(r: &mut Report, seed: u64, (n, p, h): (usize, usize, usize), density: usize, functions: usize, full: bool) -> Outcome {
-    let mut b = Bench::new(r, seed, |rng| -> Network { shapes::make(rng, n, p, h, density, functions) });
+    let mut b = Pair::new(r, seed, |rng| -> Network { shapes::make(rng, n, p, h, density, functions) });
     let (few, most) = if full { (6_000, 3_000) } else { (300, 100) };
     b.fresh(r)?;
     b.count_and_first(r)?;
@@ -124,7 +124,7 @@ fn large(r: &mut Report, seed: u64, (n, p, h): (usize, usize, usize), density: u
 }
 
 // the library alone delivers all messages that wait, round by round
-fn rounds(b: &mut Bench) -> Outcome {
+fn rounds(b: &mut Pair) -> Outcome {
     let s = b.net.stacks.list.len();
     loop {
         let words = b.case.waiting.part().to_vec();

@@ -1,8 +1,8 @@
 // Random networks from fresh: single deliveries in random order, runs, quiet tables, packets under way.
-use crate::bench::Bench;
 use crate::calls::{is_refused, refused};
 use crate::network::Network;
 use crate::packet;
+use crate::pair::Pair;
 use crate::quiet;
 use crate::report::{Kind, Outcome, Report};
 use crate::rng::Rng;
@@ -35,7 +35,7 @@ pub fn all(r: &mut Report, scale: &Scale) {
 }
 
 fn begin(r: &mut Report, seed: u64, make: Make) -> Outcome {
-    let mut b = Bench::new(r, seed, make);
+    let mut b = Pair::new(r, seed, make);
     b.fresh(r)?;
     b.count_and_first(r)?;
     // and again over a table that was at work
@@ -46,7 +46,7 @@ fn begin(r: &mut Report, seed: u64, make: Make) -> Outcome {
 
 // up to `most` deliveries, one in five of them a message that may not wait; the whole table at every `pause`
 fn deliveries(r: &mut Report, seed: u64, make: Make, most: usize, pause: usize) -> Outcome {
-    let mut b = Bench::new(r, seed, make);
+    let mut b = Pair::new(r, seed, make);
     b.fresh(r)?;
     for turn in 1..=most {
         let message = if b.rng.chance(20) { Some(b.any_message()) } else { b.waiting() };
@@ -65,7 +65,7 @@ fn deliveries(r: &mut Report, seed: u64, make: Make, most: usize, pause: usize) 
 }
 
 fn runs(r: &mut Report, seed: u64, make: Make) -> Outcome {
-    let mut b = Bench::new(r, seed, make);
+    let mut b = Pair::new(r, seed, make);
     b.fresh(r)?;
     for limit in [0, 1, 2, 7, 50, 1_000] {
         b.run(r, limit)?;
@@ -83,7 +83,7 @@ fn runs(r: &mut Report, seed: u64, make: Make) -> Outcome {
 }
 
 fn settled(r: &mut Report, seed: u64, make: Make, most: usize) -> Outcome {
-    let mut b = Bench::new(r, seed, make);
+    let mut b = Pair::new(r, seed, make);
     b.fresh(r)?;
     // some deliveries in random order first, so that quiet is reached on different ways
     for _ in 0..b.rng.below(200) {
@@ -99,7 +99,7 @@ fn settled(r: &mut Report, seed: u64, make: Make, most: usize) -> Outcome {
 
 // packets that were shown a cost go on hop by hop, with deliveries between the hops
 fn under_way(r: &mut Report, seed: u64, make: Make, packets: usize) -> Outcome {
-    let mut b = Bench::new(r, seed, make);
+    let mut b = Pair::new(r, seed, make);
     b.fresh(r)?;
     for _ in 0..packets {
         for _ in 0..b.rng.below(12) {
@@ -116,8 +116,8 @@ fn under_way(r: &mut Report, seed: u64, make: Make, packets: usize) -> Outcome {
     b.compare(r, "packets under way")
 }
 
-fn packet_on(b: &mut Bench, r: &mut Report, mut u: usize, d: usize, mut stack: Vec<u8>) -> Outcome {
-    let told = |b: &Bench, text: String| format!("{}: packet under way: {}", b.label, text);
+fn packet_on(b: &mut Pair, r: &mut Report, mut u: usize, d: usize, mut stack: Vec<u8>) -> Outcome {
+    let told = |b: &Pair, text: String| format!("{}: packet under way: {}", b.label, text);
     let mut purse = None;
     loop {
         let answer = b.case.lookup(u, d, &stack)?;

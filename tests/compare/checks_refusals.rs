@@ -1,8 +1,8 @@
 // Refusals 1, 2, 3, 4 and 9 of the seven calls: each boundary alone, and several at once, where the first in order is given.
-use crate::bench::Bench;
 use crate::calls::{refused, untouched, Case};
 use crate::lent::Lent;
 use crate::network;
+use crate::pair::Pair;
 use crate::report::{Kind, Outcome, Report};
 use crate::rng::Rng;
 use crate::scale::Scale;
@@ -28,7 +28,7 @@ struct Parts {
 }
 
 impl Parts {
-    fn of(b: &Bench) -> Parts {
+    fn of(b: &Pair) -> Parts {
         let tables = [b.net.rows(); 3];
         Parts { sizes: [b.net.n, b.net.p, b.net.h], links: b.net.link_words(), functions: b.net.function_words(), tables }
     }
@@ -114,7 +114,7 @@ fn wrong(len: usize) -> Vec<usize> {
 }
 
 fn lengths(r: &mut Report, seed: u64) -> Outcome {
-    let b = Bench::new(r, seed, shapes::small);
+    let b = Pair::new(r, seed, shapes::small);
     for len in wrong(b.net.n * b.net.n) {
         let mut parts = Parts::of(&b);
         parts.links.resize(len, 0);
@@ -133,7 +133,7 @@ fn lengths(r: &mut Report, seed: u64) -> Outcome {
 }
 
 fn one_way(r: &mut Report, seed: u64) -> Outcome {
-    let b = Bench::new(r, seed, shapes::small);
+    let b = Pair::new(r, seed, shapes::small);
     let n = b.net.n;
     for u in 0..n {
         for v in 0..n {
@@ -149,7 +149,7 @@ fn one_way(r: &mut Report, seed: u64) -> Outcome {
 }
 
 fn tables(r: &mut Report, seed: u64) -> Outcome {
-    let b = Bench::new(r, seed, shapes::small);
+    let b = Pair::new(r, seed, shapes::small);
     for which in 0..3 {
         for len in wrong(b.net.rows()) {
             let mut parts = Parts::of(&b);
@@ -188,7 +188,7 @@ fn spoil(rng: &mut Rng, parts: &mut Parts) {
 
 // several wrong at once; where it happens that nothing is, the calls' own refusals are compared
 fn mixed(r: &mut Report, seed: u64) -> Outcome {
-    let mut b = Bench::new(r, seed, shapes::small);
+    let mut b = Pair::new(r, seed, shapes::small);
     for _ in 0..40 {
         let mut parts = Parts::of(&b);
         for _ in 0..b.rng.between(1, 4) {
@@ -210,7 +210,7 @@ fn mixed(r: &mut Report, seed: u64) -> Outcome {
 
 // too short for an answer: nothing is done
 fn short(r: &mut Report, seed: u64) -> Outcome {
-    let mut b = Bench::new(r, seed, shapes::small);
+    let mut b = Pair::new(r, seed, shapes::small);
     b.fresh(r)?;
     for len in 0..2 {
         let limit = b.rng.pick(&[0, 1, 100, u32::MAX]);

@@ -1,7 +1,7 @@
 // The small network that the specification prints whole, and its examples P1 to P11.
-use crate::bench::Bench;
 use crate::calls::{number_of, refused, stack_count};
 use crate::network::Network;
+use crate::pair::Pair;
 use crate::report::{Kind, Outcome, Report};
 use crate::stacks::{self, text, Change};
 use crate::table::NO_ROW;
@@ -44,7 +44,7 @@ fn smallnet() -> Network {
 }
 
 fn first_delivery(r: &mut Report) -> Outcome {
-    let mut b = Bench::new(r, 0, |_| smallnet());
+    let mut b = Pair::new(r, 0, |_| smallnet());
     let fresh = b.case.fresh()?;
     r.same(Kind::Example, fresh, 6, || "P5 fresh".to_string())?;
     let (rows, before) = (b.case.deliver(3, 2, 3, 1)?, b.case.cost.part().to_vec());
@@ -57,7 +57,7 @@ fn first_delivery(r: &mut Report) -> Outcome {
 }
 
 fn packets(r: &mut Report) -> Outcome {
-    let mut b = Bench::new(r, 0, |_| smallnet());
+    let mut b = Pair::new(r, 0, |_| smallnet());
     b.fresh(r)?;
     b.run(r, u32::MAX)?;
     let p8 = b.case.carry(0, 3, &[0], 16_384, 4)?;
@@ -73,7 +73,7 @@ fn packets(r: &mut Report) -> Outcome {
 }
 
 fn printed(r: &mut Report) -> Outcome {
-    let mut b = Bench::new(r, 0, |_| smallnet());
+    let mut b = Pair::new(r, 0, |_| smallnet());
     b.case.fresh()?;
     b.case.run(u32::MAX, 2)?;
     let mut lines = String::new();

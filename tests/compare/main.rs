@@ -4,7 +4,6 @@
 #![allow(unknown_lints)]
 #![allow(unexpected_cfgs)]
 
-mod bench;
 mod calls;
 mod checks_broken;
 mod checks_limits;
@@ -16,6 +15,7 @@ mod least;
 mod lent;
 mod network;
 mod packet;
+mod pair;
 mod quiet;
 mod report;
 mod rng;

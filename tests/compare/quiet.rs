@@ -1,13 +1,13 @@
 // What must hold of a quiet table: least costs, ways that pay for themselves, and packets that arrive for the cost they were shown.
-use crate::bench::Bench;
 use crate::least::Graph;
 use crate::packet;
+use crate::pair::Pair;
 use crate::report::{Kind, Outcome, Report};
 use crate::stacks::text;
 use crate::table::NO_ROW;
 
 // every cost is the least one and stands exactly where there is a route; its way is a hop on a cheapest route; nothing waits
-pub fn least(b: &Bench, r: &mut Report) -> Outcome {
+pub fn least(b: &Pair, r: &mut Report) -> Outcome {
     let graph = Graph::new(&b.net);
     let s = b.net.stacks.list.len();
     for d in 0..b.net.n {
@@ -36,7 +36,7 @@ pub fn least(b: &Bench, r: &mut Report) -> Outcome {
 }
 
 // lookup and carry from one row, with the limits where something changes
-pub fn travel(b: &mut Bench, r: &mut Report, u: usize, d: usize, stack: &[u8]) -> Outcome {
+pub fn travel(b: &mut Pair, r: &mut Report, u: usize, d: usize, stack: &[u8]) -> Outcome {
     b.lookup(r, u, d, stack)?;
     let hops = b.carry(r, u, d, stack, 16_384)?;
     b.carry(r, u, d, stack, hops)?;
@@ -50,7 +50,7 @@ pub fn travel(b: &mut Bench, r: &mut Report, u: usize, d: usize, stack: &[u8]) -
 }
 
 // stacks that lookup and carry must refuse, and places that they have no row for
-pub fn astray(b: &mut Bench, r: &mut Report) -> Outcome {
+pub fn astray(b: &mut Pair, r: &mut Report) -> Outcome {
     let (n, p, h) = (b.net.n, b.net.p, b.net.h);
     let mut high = vec![0; h + 1];
     let whole: Vec<u8> = vec![(p - 1) as u8; h];
@@ -70,7 +70,7 @@ pub fn astray(b: &mut Bench, r: &mut Report) -> Outcome {
 }
 
 // every row of a small table, `most` random ones of a large one
-pub fn journeys(b: &mut Bench, r: &mut Report, most: usize) -> Outcome {
+pub fn journeys(b: &mut Pair, r: &mut Report, most: usize) -> Outcome {
     let s = b.net.stacks.list.len();
     if b.net.rows() <= most {
         for at in 0..b.net.rows() {

@@ -1,3 +1,4 @@
+-- The laws of crate bridge, and what they rest on.
 pub mod Hops
 pub mod Weights
 pub mod States

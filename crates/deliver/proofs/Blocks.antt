@@ -1,4 +1,4 @@
--- Laws of the search through the flagged blocks of one node. Assumes nothing.
+-- Laws of the search through the flagged blocks of one node.
 use mathlib.Core.Path.{_≡_, sym, ap, _∙_}
 use mathlib.Core.Bool.{true, false}
 use mathlib.Core.List.{List}

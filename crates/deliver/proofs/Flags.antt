@@ -1,4 +1,4 @@
--- Laws of the flags: they are right at first, and stay right where rows change. Assumes nothing.
+-- Laws of the flags: they are right at first, and stay right where rows change.
 use mathlib.Core.Path.{_≡_, sym, ap, subst, _∙_}
 use mathlib.Core.Logic.{_⊎_, inl, inr}
 use mathlib.Core.Bool.{true}

@@ -1,3 +1,4 @@
+-- The laws of crate deliver, and what they rest on.
 pub mod Flags
 pub mod Blocks
 pub mod StepTests

@@ -1,3 +1,4 @@
+-- The definitions of crate deliver.
 pub mod Steps
 pub mod Flags
 pub mod Turns

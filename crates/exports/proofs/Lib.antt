@@ -1,3 +1,4 @@
+-- The laws of crate exports, and what they rest on.
 pub mod Unpacked
 pub mod Answered
 pub mod StackAnswers

@@ -1,3 +1,4 @@
+-- The definitions of crate exports.
 pub mod Packing
 pub mod Ranges
 pub mod Run

@@ -1,3 +1,4 @@
+-- The definitions of crate forward.
 pub mod Forward
 pub mod Answers
 pub mod Steps

@@ -1,1 +1,2 @@
+-- The definitions of crate fresh.
 pub mod Filling

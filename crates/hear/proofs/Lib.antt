@@ -1,3 +1,4 @@
+-- The laws of crate hear, and what they rest on.
 pub mod Sources
 pub mod Leaders
 pub mod Below

@@ -1,3 +1,4 @@
+-- The laws of crate network, and what they rest on.
 pub mod Entries
 pub mod Links
 pub mod Bounds

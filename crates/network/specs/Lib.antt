@@ -1,3 +1,4 @@
+-- The definitions of crate network.
 pub mod Network
 pub mod Answers
 pub mod Steps

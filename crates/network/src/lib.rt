@@ -155,7 +155,7 @@ fn any_from(n: usize, p: usize, functions: &[u16], node: usize, x: usize) -> boo
     false
 }
 
-// Whether a node accepts protocol x as a destination: it converts, wraps or unwraps x.
+// Whether a node accepts protocol x as a destination: it converts x, wraps x, or unwraps something from x.
 pub fn accepts(n: usize, p: usize, functions: &[u16], node: usize, x: usize) -> bool
     ensures { λ r. ⌜ r ≡ receivesAt n p (now (functions .entry)) node x ⌝ }
 {

@@ -1,3 +1,4 @@
+-- The laws of crate promise, and what they rest on.
 pub mod Reaching
 pub mod Ways
 pub mod Onward

@@ -1,3 +1,4 @@
+-- The definitions of crate promise.
 pub mod Routes
 pub mod Promise
 pub mod Examples

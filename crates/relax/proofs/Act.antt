@@ -1,5 +1,5 @@
 -- The model is not empty: a start, a delivery for each message that waits, and from every reachable state a way to a quiet one.
--- `start` and `act` stand here and not in specs/: no theorem elsewhere rests on them, and `act` needs the decision `takes?`. Assumes nothing.
+-- `start` and `act` stand here and not in specs/: no theorem elsewhere rests on them, and `act` needs the decision `takes?`.
 use Prim.Native.Nat.{ℕ, zero, suc, _+_, _≤_, _<_}
 use mathlib.Core.Path.{_≡_, _∙_}
 use mathlib.Core.Logic.{_⊎_, inl, inr, ⊎-elim, by-cases, ite, if-pos, if-neg}

@@ -1,5 +1,4 @@
 -- A packet at a vertex with a known cost c is carried home: in at most c hops, and spending at most c, whatever is delivered on the way.
--- Assumes nothing.
 use Prim.Native.Nat.{ℕ, zero, suc, _+_, _-_, _≤_, _<_}
 use mathlib.Core.Path.{_≡_, refl, sym, _∙_, subst}
 use mathlib.Core.Logic.{_≢_, ⊎-elim}

@@ -1,5 +1,5 @@
 -- Every reachable cost is `noRow` or at most `ceilingOf g`. What is kept: v's cost and `dearest` are at most `dearest` for each vertex that costs no more than v.
--- (A vertex u that takes an offer from x costs more than all that count for x, so it counts as one more.) Assumes nothing.
+-- (A vertex u that takes an offer from x costs more than all that count for x, so it counts as one more.)
 use Prim.Native.Nat.{ℕ, suc, _+_, _-_, _*_, _≤_, _<_, zero-le}
 use mathlib.Core.Path.{_≡_, refl, _∙_}
 use mathlib.Core.Logic.{_≢_, _⊎_, inl, inr, by-cases}

@@ -1,4 +1,4 @@
--- Deliveries end: each lowers a measure, the sum of the costs before the number of messages that wait. Assumes nothing.
+-- Deliveries end: each lowers a measure, the sum of the costs before the number of messages that wait.
 use Prim.Native.Nat.{ℕ, suc, _+_, _*_, _≤_, _<_}
 use mathlib.Core.Path.{_≡_, sym, _∙_, ap}
 use mathlib.Core.Logic.{_≢_, _⊎_, inl, inr, ⊎-elim, by-cases}

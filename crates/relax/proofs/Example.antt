@@ -1,4 +1,4 @@
--- A graph of two vertices that meets the laws, and its one delivery: the theory is not empty. Assumes nothing.
+-- A graph of two vertices that meets the laws, and its one delivery: the theory is not empty.
 use Prim.Native.Nat.{ℕ, zero, suc, _≤_, _<_}
 use mathlib.Core.Path.{_≡_, refl}
 use mathlib.Core.Bool.{Bool, true, false, false≢true}

@@ -1,5 +1,5 @@
 -- The laws of the model: what the two tests tell, that `Takes` is decided, and the induction by which every invariant is shown.
--- No other file opens `wins` or `cleared`: whoever changes a test has these laws to prove again, and nothing else. Assumes nothing.
+-- No other file opens `wins` or `cleared`: whoever changes a test has these laws to prove again, and nothing else.
 use Prim.Native.Nat.{ℕ, _+_, _≤_, _<_}
 use mathlib.Core.Path.{_≡_, refl, sym, _∙_, subst}
 use mathlib.Core.Bool.{Bool, true, false, _&&_, true≢false}

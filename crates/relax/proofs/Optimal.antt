@@ -1,4 +1,4 @@
--- Every known cost is that of a route, and once no message waits it is that of a cheapest one. Assumes nothing.
+-- Every known cost is that of a route, and once no message waits it is that of a cheapest one.
 use Prim.Native.Nat.{ℕ, _+_, _≤_, _<_}
 use mathlib.Core.Path.{_≡_, sym, _∙_}
 use mathlib.Core.Logic.{_≢_, _↔_, _⊎_, inl, inr, ⊎-elim, by-cases}

@@ -1,4 +1,4 @@
--- Costs never rise, and every known cost is 0 at home or pays for the next hop. Assumes nothing.
+-- Costs never rise, and every known cost is 0 at home or pays for the next hop.
 use Prim.Native.Nat.{ℕ, _≤_}
 use mathlib.Core.Path.{_≡_, _∙_}
 use mathlib.Core.Logic.{_≢_, _⊎_, inl, inr, ⊎-elim, by-cases}

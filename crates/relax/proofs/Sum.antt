@@ -1,4 +1,4 @@
--- The laws of sums and of tests as numbers, on which the ceiling and the measure rest alike. Assumes nothing.
+-- The laws of sums and of tests as numbers, on which the ceiling and the measure rest alike.
 use Prim.Native.Nat.{ℕ, zero, suc, _+_, _*_, _≤_, _<_}
 use mathlib.Core.Path.{_≡_, refl}
 use mathlib.Core.Logic.{by-cases}

@@ -1,5 +1,5 @@
 -- The model: a weighted graph, the table that its gateways keep, and what the delivery of one message does to it. Definitions only.
--- Vertices, gateways, weights and costs are numbers, so that a theorem here serves every layout of a table in memory. Assumes nothing.
+-- Vertices, gateways, weights and costs are numbers, so that a theorem here serves every layout of a table in memory.
 use Prim.Native.Nat.{ℕ, _+_, _-_, _*_, _≤_, _<_}
 use mathlib.Core.Path.{_≡_}
 use mathlib.Core.Bool.{Bool, true, false, _&&_}

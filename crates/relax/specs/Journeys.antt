@@ -1,5 +1,4 @@
 -- What the theorems speak of: sound tables, ways home, packets on their way, runs of deliveries, and how long a run can be. Definitions only.
--- Assumes nothing.
 use Prim.Native.Nat.{ℕ, zero, suc, _+_, _-_, _*_, _≤_, _<_}
 use mathlib.Core.Path.{_≡_}
 use mathlib.Core.Logic.{_≢_, _⊎_}

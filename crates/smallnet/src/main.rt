@@ -6,7 +6,7 @@ use table::Counted;
 // p = 2 (a is 0, b is 1), h = 2, so there are 6 stacks; four nodes in a line: 0 to 1 costs 2, back 7; 1 to 2 costs 3, back 3; 2 to 3 costs 1, back 4.
 const LINKS: [u16; 16] = [0, 2, 0, 0, 7, 0, 3, 0, 0, 3, 0, 1, 0, 0, 4, 0];
 
-// A line for each node: convert, wrap, unwrap. Nodes 0 and 3 convert a to a at price 0, node 1 wraps a in b at 5, node 2 unwraps a from b at 1.
+// Twelve numbers for each node: convert, wrap, unwrap. Nodes 0 and 3 convert a to a at price 0, node 1 wraps a in b at 5, node 2 unwraps a from b at 1.
 const FUNCTIONS: [u16; 48] = [
     1,
     0,

@@ -1,3 +1,4 @@
+-- The laws of crate stacks, and what they rest on.
 pub mod Tests
 pub mod Count
 pub mod Scan

@@ -1,4 +1,4 @@
--- Laws of the search's answers: an answer that says what is there is the answer of the search. Assumes nothing.
+-- Laws of the search's answers: an answer that says what is there is the answer of the search.
 use mathlib.Core.Path.{_≡_, refl, sym, ap, ap₂, subst, _∙_}
 use mathlib.Core.List.{List}
 use Prim.Native.Nat.{ℕ, _≤_, _<_, min}

@@ -1,3 +1,4 @@
+-- The laws of crate table, and what they rest on.
 pub mod Begins
 pub mod Places
 pub mod Firsts

@@ -1,4 +1,4 @@
--- Laws of places: the rows of one node lie side by side, and in them the blocks of its destinations. Assumes nothing.
+-- Laws of places: the rows of one node lie side by side, and in them the blocks of its destinations.
 use mathlib.Core.Path.{_≡_, refl, sym, ap, _∙_}
 use Prim.Native.Nat.{ℕ, _+_, _*_, _/_, _%_, _≤_, _<_}
 use native.Mathlib.Nat.{suc-mul, mul-assoc, mul-comm, add-mul, mul-le-mul-right, mod-lt, div-add-mod', div-lt-iff-lt-mul, div-eq-of-lt-le, div-div-eq-div-mul}

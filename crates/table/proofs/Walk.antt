@@ -1,4 +1,4 @@
--- Laws of the walk over nodes, rows and bits: one step on, and the answer where a bit is set. Assumes nothing.
+-- Laws of the walk over nodes, rows and bits: one step on, and the answer where a bit is set.
 use mathlib.Core.Path.{_≡_, sym, ap, _∙_}
 use mathlib.Core.Bool.{true, false}
 use mathlib.Core.List.{List}

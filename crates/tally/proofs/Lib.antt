@@ -1,1 +1,2 @@
+-- The laws of crate tally, and what they rest on.
 pub mod Examples

@@ -1,1 +1,2 @@
+-- The definitions of crate tally.
 pub mod Tally

@@ -1,4 +1,4 @@
--- What an answer of the search tells: Nowhere, that every word looked at is 0; a place, that it is the first that is not. Assumes nothing.
+-- What an answer of the search tells: Nowhere, that every word looked at is 0; a place, that it is the first that is not.
 use mathlib.Core.Path.{_≡_, refl, ap, subst, _∙_}
 use mathlib.Core.List.{List}
 use Prim.Native.Nat.{ℕ, zero, suc, _+_, _-_, _≤_, _<_, min}

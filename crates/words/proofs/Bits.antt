@@ -1,4 +1,4 @@
--- Laws of single bits, as numbers: of the masks bit by bit, of 2 ^ v, and of one bit that is set or cleared. Assumes nothing.
+-- Laws of single bits, as numbers: of the masks bit by bit, of 2 ^ v, and of one bit that is set or cleared.
 use mathlib.Core.Path.{_≡_, refl, sym, ap, _∙_}
 use Prim.Native.Nat.{ℕ, zero, suc, _+_, _-_, _*_, _/_, _%_, _^_, _≤_, _<_, suc-le-suc}
 use native.Mathlib.Nat.{mod-lt, one-mul, zero-mul, zero-div, div-one, div-eq-of-lt, pow-suc, zero-lt-suc}

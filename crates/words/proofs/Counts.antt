@@ -1,4 +1,4 @@
--- Laws of the count of set bits: its bound, that it is the library's, and that clearing a set bit lowers it by one. Assumes nothing.
+-- Laws of the count of set bits: its bound, that it is the library's, and that clearing a set bit lowers it by one.
 use mathlib.Core.Path.{_≡_, refl, sym, ap, _∙_, subst}
 use mathlib.Core.Bool.{true}
 use Prim.Native.Nat.{ℕ, zero, suc, _+_, _/_, _%_, _^_, _≤_, _<_}

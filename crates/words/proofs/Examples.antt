@@ -1,4 +1,4 @@
--- The definitions at words that are written out, by computation. Assumes nothing.
+-- The definitions at words that are written out, by computation.
 use mathlib.Core.Path.{_≡_, refl}
 use mathlib.Core.Bool.{true, false}
 use mathlib.Core.List.{[], _∷_}

@@ -1,4 +1,4 @@
--- Laws of waiting words by the test `has`: of a bit cleared, of words joined, and that the 32 tests fix the word. Assumes nothing.
+-- Laws of waiting words by the test `has`: of a bit cleared, of words joined, and that the 32 tests fix the word.
 use mathlib.Core.Path.{_≡_, refl, sym, ap, _∙_}
 use mathlib.Core.Bool.{Bool, true, false, _||_}
 use Prim.Native.Nat.{ℕ, zero, suc, _-_, _*_, _^_, _≤_, _<_}

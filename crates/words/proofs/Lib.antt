@@ -1,4 +1,4 @@
--- The laws of waiting words, and the examples. Assumes nothing.
+-- The laws of waiting words, and the examples.
 pub mod Bits
 pub mod Laws
 pub mod Masks

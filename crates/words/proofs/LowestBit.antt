@@ -1,4 +1,4 @@
--- Laws of the lowest set bit: it is the library's count of trailing zeros, and the first test that passes. Assumes nothing.
+-- Laws of the lowest set bit: it is the library's count of trailing zeros, and the first test that passes.
 use mathlib.Core.Path.{_≡_, refl, sym, ap, _∙_}
 use mathlib.Core.Bool.{Bool, true, false, cond}
 use Prim.Native.Nat.{ℕ, zero, suc, _+_, _/_, _%_, _^_, _<_, suc-le-suc}

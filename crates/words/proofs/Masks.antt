@@ -1,4 +1,4 @@
--- Laws of words that are built bit by bit: one bit set, and the word of 32 tests. Assumes nothing.
+-- Laws of words that are built bit by bit: one bit set, and the word of 32 tests.
 use mathlib.Core.Path.{_≡_, refl, sym, ap, ap₂, _∙_, subst}
 use mathlib.Core.Bool.{Bool, true, false, cond, _&&_}
 use Prim.Native.Nat.{ℕ, zero, suc, _+_, _^_, _≤_, _<_}

@@ -1,4 +1,4 @@
--- Laws of the walks over a list of words: the count of all set bits, and the first word that is not 0. Assumes nothing.
+-- Laws of the walks over a list of words: the count of all set bits, and the first word that is not 0.
 use mathlib.Core.Path.{_≡_, sym, ap, ap₂, _∙_}
 use mathlib.Core.Bool.{Bool, cond}
 use mathlib.Core.List.{List, _∷_}

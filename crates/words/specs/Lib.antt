@@ -1,2 +1,2 @@
--- What the contracts of this crate cite. Assumes nothing.
+-- What the contracts of this crate cite.
 pub mod Words

@@ -1,4 +1,4 @@
--- Waiting words: a word's bits, and what the functions of this crate answer. Assumes nothing.
+-- Waiting words: a word's bits, and what the functions of this crate answer.
 use mathlib.Core.Bool.{Bool, cond}
 use mathlib.Core.List.{List, [], _∷_}
 use Prim.Native.Nat.{ℕ, zero, suc, _+_, _-_, _*_, _/_, _%_, _^_}

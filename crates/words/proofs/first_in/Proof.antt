@@ -1,4 +1,4 @@
--- `words::first_in` meets its contract. The invariant: the search from i on has the answer of the whole search. Assumes nothing.
+-- `words::first_in` meets its contract. The invariant: the search from i on has the answer of the whole search.
 use mathlib.Core.Path.{_≡_, sym, ap, _∙_}
 use Prim.Native.Nat.{ℕ, _-_}
 use native.Mathlib.Omega.{arith}

@@ -1,4 +1,4 @@
--- `words::has` meets its contract: the shift computes to the bit, and no bit stands at 32 or above. Assumes nothing.
+-- `words::has` meets its contract: the shift computes to the bit, and no bit stands at 32 or above.
 use mathlib.Core.Path.{refl, sym}
 use borrow.Author.Needs.{needs}
 use Rattle.words.specs.Words.{has}

@@ -1,4 +1,4 @@
--- `words::lowest` meets its contract: the search by tests is the machine's count of trailing zeros. Assumes nothing.
+-- `words::lowest` meets its contract: the search by tests is the machine's count of trailing zeros.
 use mathlib.Core.Path.{sym}
 use native.Mathlib.Omega.{arith}
 use lib.Count.{trailing-le}

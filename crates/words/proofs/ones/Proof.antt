@@ -1,4 +1,4 @@
--- `words::ones` meets its contract: the sum of the bits is the machine's count. Assumes nothing.
+-- `words::ones` meets its contract: the sum of the bits is the machine's count.
 use mathlib.Core.Path.{sym}
 use Rattle.words.proofs.Counts.{ones-is-library}
 use Rattle.words.proofs.ones.Statement.{statement}

@@ -1,5 +1,4 @@
 -- `words::ones_in` meets its contract. The invariant: the sum so far and the bits of the words left make the whole, and the sum is at most 32 a word.
--- Assumes nothing.
 use mathlib.Core.Path.{_≡_, sym}
 use Prim.Native.Nat.{_+_, _*_, _-_, _≤_}
 use native.Mathlib.Nat.{zero-add}

@@ -1,4 +1,4 @@
--- `words::with_all` meets its contract, which is what `|` computes to. Assumes nothing.
+-- `words::with_all` meets its contract, which is what `|` computes to.
 use mathlib.Core.Path.{refl}
 use Rattle.words.specs.Words.{withAll}
 use Rattle.words.proofs.with_all.Statement.{statement}

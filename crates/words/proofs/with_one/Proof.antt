@@ -1,4 +1,4 @@
--- `words::with_one` meets its contract: below 32 the shift is exact, and above the word stays. Assumes nothing.
+-- `words::with_one` meets its contract: below 32 the shift is exact, and above the word stays.
 use mathlib.Core.Path.{sym, ap, _∙_}
 use Prim.Native.Nat.{ℕ}
 use borrow.Author.Needs.{needs}

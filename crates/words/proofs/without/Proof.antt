@@ -1,4 +1,4 @@
--- `words::without` meets its contract: `word & (1 << v)` is the bit times 2 ^ v. Assumes nothing.
+-- `words::without` meets its contract: `word & (1 << v)` is the bit times 2 ^ v.
 use mathlib.Core.Path.{ap, sym, _∙_}
 use Prim.Native.Nat.{ℕ, _-_}
 use borrow.Author.Needs.{needs}

@@ -1,5 +1,5 @@
 -- `deliver::search::search_flagged` meets its contract. The invariant: the nodes that are passed hold nothing, so the search from here on has the answer
--- of the whole search; and the flags are right. Assumes nothing.
+-- of the whole search; and the flags are right.
 use mathlib.Core.Path.{sym, _∙_}
 use Prim.Native.Nat.{ℕ, _+_, _*_, _-_, _≤_}
 use native.Mathlib.Omega.{arith}

@@ -1,5 +1,5 @@
 -- `deliver::search::search_node` meets its contract. The invariant: `left` is the node's flags, and the flags are right. Each turn clears one flag, so
--- the word falls. Assumes nothing.
+-- the word falls.
 use mathlib.Core.Path.{_≡_, refl, sym, ap, subst, _∙_}
 use Prim.Native.Nat.{ℕ, _<_}
 use native.Mathlib.Omega.{arith}

@@ -1,4 +1,4 @@
--- `deliver::step::step` meets its contract: a law of proofs/Tests.antt for each return.
+-- `deliver::step::step` meets its contract: a law of proofs/StepTests.antt for each return.
 use Prim.Native.Nat.{ℕ, _+_, _-_, _*_, _<_}
 use mathlib.Core.Path.{_≡_, sym, ap, _∙_}
 use mathlib.Core.Bool.{true}

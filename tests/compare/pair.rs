@@ -7,7 +7,7 @@ use crate::rng::Rng;
 use crate::stacks::text;
 use crate::table::{Message, Row, Table};
 
-pub struct Bench {
+pub struct Pair {
     pub net: Network,
     pub case: Case,
     pub table: Table,
@@ -15,15 +15,15 @@ pub struct Bench {
     pub label: String,
 }
 
-impl Bench {
+impl Pair {
     // `make` draws the network; both tables start as junk
-    pub fn new(r: &mut Report, seed: u64, make: impl FnOnce(&mut Rng) -> Network) -> Bench {
+    pub fn new(r: &mut Report, seed: u64, make: impl FnOnce(&mut Rng) -> Network) -> Pair {
         let mut rng = Rng::new(seed);
         let net = make(&mut rng);
         r.networks += 1;
         let label = format!("network of n={} p={} h={}", net.n, net.p, net.h);
         let case = Case::new(&net);
-        Bench { net, case, table: Table::empty(), rng, label }
+        Pair { net, case, table: Table::empty(), rng, label }
     }
 
     fn told(&self, call: String) -> String {
