@@ -15,7 +15,11 @@ pub enum Call {
     StackOf { p: usize, h: usize, number: usize },
     Applied { p: usize, h: usize, function: usize, number: usize },
     InverseOf { p: usize, function: usize },
+    ReadStack { h: usize },
 }
+
+// stands for read_stack's 9 that is tested last, where 9 is the one that is tested first
+pub const NO_ROOM_LAST: u64 = 90;
 
 // `zero` and `more`: whether it can answer 0, and a number above 0. The tally answers nothing: 1 stands for a counter that stops.
 pub struct Kind {
@@ -29,7 +33,7 @@ const fn kind(name: &'static str, zero: bool, more: bool, refusals: &'static [u6
     Kind { name, zero, more, refusals }
 }
 
-pub const KINDS: [Kind; 13] = [
+pub const KINDS: [Kind; 14] = [
     kind("bannogwy_fresh", true, true, &[1, 2, 3]),
     kind("bannogwy_count", true, true, &[1, 2, 3]),
     kind("bannogwy_first_waiting", true, true, &[1, 2, 3]),
@@ -43,6 +47,7 @@ pub const KINDS: [Kind; 13] = [
     kind("bannogwy_stack_of", false, true, &[4]),
     kind("bannogwy_applied", true, true, &[4]),
     kind("bannogwy_inverse_of", true, true, &[4]),
+    kind("bannogwy_read_stack", true, false, &[1, 9, 61, 62, 63, 64, 65, 66, 67, NO_ROOM_LAST]),
 ];
 
 impl Call {
@@ -62,6 +67,7 @@ impl Call {
             Call::StackOf { .. } => 10,
             Call::Applied { .. } => 11,
             Call::InverseOf { .. } => 12,
+            Call::ReadStack { .. } => 13,
         }
     }
 }

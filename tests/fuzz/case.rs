@@ -31,6 +31,15 @@ extern "C" {
     fn bannogwy_stack_of(p: usize, h: usize, number: usize, out: *mut u8, out_len: usize) -> u64;
     fn bannogwy_applied(p: usize, h: usize, function: usize, number: usize) -> u64;
     fn bannogwy_inverse_of(p: usize, function: usize) -> u64;
+    fn bannogwy_read_stack(
+        h: usize,
+        packet: *const u8,
+        packet_len: usize,
+        out: *mut u8,
+        out_len: usize,
+        answer: *mut u64,
+        answer_len: usize,
+    ) -> u64;
 }
 
 // the network and the table, lent to each of the seven calls
@@ -51,6 +60,7 @@ pub struct Case {
     pub answer: Lent<u64>,
     pub out: Lent<u8>,
     pub tally: Lent<u32>,
+    pub packet: Lent<u8>,
 }
 
 macro_rules! call {
@@ -74,13 +84,14 @@ impl Case {
             answer: Lent::new("answer", vast),
             out: Lent::new("out", vast),
             tally: Lent::new("tally", vast),
+            packet: Lent::new("packet", vast),
         }
     }
 
-    fn slices(&mut self) -> [&mut dyn Slice; 9] {
+    fn slices(&mut self) -> [&mut dyn Slice; 10] {
         let c = &mut self.common;
-        let (stack, answer, out, tally) = (&mut self.stack, &mut self.answer, &mut self.out, &mut self.tally);
-        [&mut c.links, &mut c.functions, &mut c.cost, &mut c.way, &mut c.waiting, stack, answer, out, tally]
+        let (stack, answer, out, tally, packet) = (&mut self.stack, &mut self.answer, &mut self.out, &mut self.tally, &mut self.packet);
+        [&mut c.links, &mut c.functions, &mut c.cost, &mut c.way, &mut c.waiting, stack, answer, out, tally, packet]
     }
 
     // what the library answers; while it works, the bytes beside the slices are shut
@@ -94,6 +105,7 @@ impl Case {
     unsafe fn library(&self, asked: Call) -> u64 {
         let common = &self.common;
         let (stack, height) = (self.stack.pointer(), self.stack.len());
+        let (out, out_len, answer, answer_len) = (self.out.pointer(), self.out.len(), self.answer.pointer(), self.answer.len());
         match asked {
             Call::Fresh => call!(common, bannogwy_fresh),
             Call::Count => call!(common, bannogwy_count),
@@ -101,10 +113,10 @@ impl Case {
             Call::Deliver { sender, receiver, destination, number } => {
                 call!(common, bannogwy_deliver, sender, receiver, destination, number)
             }
-            Call::Run { limit } => call!(common, bannogwy_run, limit, self.answer.pointer(), self.answer.len()),
+            Call::Run { limit } => call!(common, bannogwy_run, limit, answer, answer_len),
             Call::Lookup { node, destination } => call!(common, bannogwy_lookup, node, destination, stack, height),
             Call::Carry { node, destination, limit } => {
-                call!(common, bannogwy_carry, node, destination, stack, height, limit, self.answer.pointer(), self.answer.len())
+                call!(common, bannogwy_carry, node, destination, stack, height, limit, answer, answer_len)
             }
             Call::TallyAdd { deliveries, offers, refused } => {
                 bannogwy_tally_add(self.tally.pointer(), deliveries, offers, refused);
@@ -112,9 +124,10 @@ impl Case {
             }
             Call::StackCount { p, h } => bannogwy_stack_count(p, h),
             Call::NumberOf { p, h } => bannogwy_number_of(p, h, stack, height + self.too_long(h)),
-            Call::StackOf { p, h, number } => bannogwy_stack_of(p, h, number, self.out.pointer(), self.out.len()),
+            Call::StackOf { p, h, number } => bannogwy_stack_of(p, h, number, out, out_len),
             Call::Applied { p, h, function, number } => bannogwy_applied(p, h, function, number),
             Call::InverseOf { p, function } => bannogwy_inverse_of(p, function),
+            Call::ReadStack { h } => bannogwy_read_stack(h, self.packet.pointer(), self.packet.len(), out, out_len, answer, answer_len),
         }
     }
 
@@ -129,10 +142,20 @@ impl Case {
         self.slices().into_iter().try_for_each(|slice| slice.check())
     }
 
-    pub fn lengths(&self) -> String {
+    // what this call is lent, and nothing that an earlier round left, so that a repeated round says the same
+    pub fn lent(&self, asked: Call) -> String {
         let c = &self.common;
         let network = format!("n {} p {} h {}, links {} functions {}", c.n, c.p, c.h, c.links.len(), c.functions.len());
         let table = format!("cost {} way {} waiting {}", c.cost.len(), c.way.len(), c.waiting.len());
-        format!("{} {}, stack {:?}, answer {}, out {}", network, table, self.stack.want, self.answer.len(), self.out.len())
+        let (stack, packet, answer, out) = (&self.stack.want, &self.packet, self.answer.len(), self.out.len());
+        let own = match asked {
+            Call::Run { .. } => format!(", answer {}", answer),
+            Call::Lookup { .. } | Call::NumberOf { .. } => format!(", stack {:?}", stack),
+            Call::Carry { .. } => format!(", stack {:?}, answer {}", stack, answer),
+            Call::StackOf { .. } => format!(", out {}", out),
+            Call::ReadStack { .. } => format!(", packet {} {:02x?}, out {}, answer {}", packet.len(), packet.want, out, answer),
+            _ => String::new(),
+        };
+        format!("{} {}{}", network, table, own)
     }
 }

@@ -70,7 +70,7 @@ fuzz() {
         printf 'without address checks, which the emulator does not know\n'
     fi
     for fault in three_before_two run_needs_three one_bit_more_cleared written_on_refusal short_answer_written bits_of_nodes_only \
-        ceiling_one_lower; do
+        ceiling_one_lower checksum_unseen zeros_in_short_answer; do
         beside "caught: $fault" stopped "$fault" '^mismatch: ' build_fuzz "$library"
     done
     for fault in reads_behind reads_before longer_than_lent; do

@@ -2,6 +2,7 @@
 use crate::call::Call;
 use crate::case::{Case, Common};
 use crate::draw_numbers::{fill, lend, mostly, odd};
+use crate::draw_packet;
 use crate::memory::Lent;
 use crate::model_network::lent;
 use crate::model_table::NO_ROW;
@@ -9,7 +10,7 @@ use crate::rng::Rng;
 use crate::stacks;
 
 pub fn draw(rng: &mut Rng, case: &mut Case) -> Call {
-    match rng.below(100) {
+    match rng.below(112) {
         0..=3 => Call::Fresh,
         4..=7 => Call::Count,
         8..=13 => Call::FirstWaiting,
@@ -21,6 +22,7 @@ pub fn draw(rng: &mut Rng, case: &mut Case) -> Call {
         }
         64..=77 => carrying(rng, case),
         78..=81 => adding(rng, &mut case.tally),
+        82..=93 => reading(rng, case),
         _ => bare(rng, case),
     }
 }
@@ -125,6 +127,34 @@ fn lend_stack(rng: &mut Rng, case: &mut Case, mut stack: Vec<u8>, p: usize, h: u
     lend(rng, &mut case.stack, 2);
 }
 
+// a buffer for a stack of this height, or a shorter or a longer one
+fn buffer(rng: &mut Rng, out: &mut Lent<u8>, height: usize) {
+    let len = rng.pick(&[0, height - 1, height, height, height + 1, 12, 20]);
+    out.want = fill(rng, len);
+    out.lend(rng);
+}
+
+fn reading(rng: &mut Rng, case: &mut Case) -> Call {
+    let h = rng.between(1, 12);
+    let height = match rng.below(16) {
+        0 => 13,
+        1 | 2 => h + 1,
+        3..=5 => h,
+        _ => rng.between(1, h),
+    };
+    case.packet.want = draw_packet::draw(rng, height);
+    lend(rng, &mut case.packet, 2);
+    buffer(rng, &mut case.out, height);
+    room(rng, &mut case.answer, 4);
+    let h = match rng.below(30) {
+        0 => 0,
+        1 => 13,
+        2 => odd(rng, h),
+        _ => h,
+    };
+    Call::ReadStack { h }
+}
+
 fn adding(rng: &mut Rng, tally: &mut Lent<u32>) -> Call {
     let mut number = || {
         let some = rng.word();
@@ -158,9 +188,7 @@ fn bare(rng: &mut Rng, case: &mut Case) -> Call {
             Call::NumberOf { p, h }
         }
         2 => {
-            let len = rng.pick(&[0, stack.len() - 1, stack.len(), stack.len() + 1, 12, 20]);
-            case.out.want = fill(rng, len);
-            case.out.lend(rng);
+            buffer(rng, &mut case.out, stack.len());
             Call::StackOf { p, h, number }
         }
         3 | 4 => Call::Applied { p, h, function: fitting(rng, &stack, function), number },

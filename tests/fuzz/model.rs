@@ -1,6 +1,7 @@
 // What each call must answer, and what every slice must hold after it: the specification once more, on raw numbers and slices.
 use crate::call::Call;
 use crate::case::Case;
+use crate::model_headers::read_stack;
 use crate::model_network::lent;
 use crate::model_packets::{carry, lookup, Look};
 use crate::model_table::{count, deliver, first_waiting, fresh, run, Message, Ran};
@@ -37,6 +38,7 @@ pub fn answer(case: &mut Case, call: &mut Call) -> u64 {
         Call::StackOf { p, h, number } => written(&mut case.out.want, stacks::stack(p, h, number as u128)),
         Call::Applied { p, h, function, number } => applied(p, h, function, number).unwrap_or_else(|| refused(4)),
         Call::InverseOf { p, function } => inverse(p, function).unwrap_or_else(|| refused(4)),
+        Call::ReadStack { h } => end(read_stack(h, case.packet.words(), &mut case.out.want, &mut case.answer.want)),
     }
 }
 

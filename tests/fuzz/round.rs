@@ -28,9 +28,9 @@ fn one_call(case: &mut Case, met: &mut Met, rng: &mut Rng, number: u64) -> Resul
     watch::call(number, call.kind());
     let want = model::answer(case, &mut call);
     let got = case.ask(call);
-    met.count(call.kind(), want);
+    met.count(call.kind(), want, case.answer.len());
     let answered = if got == want { Ok(()) } else { Err(format!("  library:     {:x}\n  independent: {:x}", got, want)) };
-    answered.and_then(|()| case.check()).map_err(|text| format!("{:?}, {}\n{}", call, case.lengths(), text))
+    answered.and_then(|()| case.check()).map_err(|text| format!("{:?}, {}\n{}", call, case.lent(call), text))
 }
 
 // a few rows of the table, in the library's slices and the independent program's
