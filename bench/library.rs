@@ -1,28 +1,8 @@
-// The library's side: the C calls as include/bannogwy.h declares them.
+// The library's side: its calls on the slices of a network and a table.
+use crate::bannogwy::{bannogwy_carry, bannogwy_count, bannogwy_first_waiting, bannogwy_fresh, bannogwy_lookup, bannogwy_run};
 use crate::lent::{Network, Packet, Side, Table};
 
 pub const SIDE: Side = Side { fresh, count, first_waiting, run, lookup, carry };
-
-macro_rules! declare {
-    ($($name:ident($($more:ty),*);)*) => {
-        extern "C" {
-            $(fn $name(
-                n: usize, p: usize, h: usize, links: *const u16, links_len: usize, functions: *const u16, functions_len: usize,
-                cost: *mut u32, cost_len: usize, way: *mut u16, way_len: usize, waiting: *mut u32, waiting_len: usize,
-                $(_: $more),*
-            ) -> u64;)*
-        }
-    };
-}
-
-declare! {
-    bannogwy_fresh();
-    bannogwy_count();
-    bannogwy_first_waiting();
-    bannogwy_run(u32, *mut u64, usize);
-    bannogwy_lookup(usize, usize, *const u8, usize);
-    bannogwy_carry(usize, usize, *const u8, usize, usize, *mut u64, usize);
-}
 
 // `pointer`: as_ptr, or as_mut_ptr where the call writes the table
 macro_rules! call {

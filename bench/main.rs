@@ -3,6 +3,8 @@
 #![no_main]
 
 mod agree;
+#[path = "../include/bannogwy.rs"]
+mod bannogwy;
 mod clock;
 mod lent;
 mod library;

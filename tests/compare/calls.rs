@@ -1,45 +1,16 @@
-// The library's C calls as include/bannogwy.h declares them, on slices that lie between guards.
+// The library's calls on slices that lie between guards.
+pub use crate::bannogwy::is_refused;
+use crate::bannogwy::{
+    bannogwy_applied, bannogwy_carry, bannogwy_count, bannogwy_deliver, bannogwy_first_waiting, bannogwy_fresh, bannogwy_inverse_of,
+    bannogwy_lookup, bannogwy_number_of, bannogwy_run, bannogwy_stack_count, bannogwy_stack_of,
+};
 use crate::lent::{Lent, Word};
 use crate::network::Network;
-
-macro_rules! declare {
-    ($($name:ident($($more:ty),*);)*) => {
-        extern "C" {
-            $(fn $name(
-                n: usize, p: usize, h: usize, links: *const u16, links_len: usize, functions: *const u16, functions_len: usize,
-                cost: *mut u32, cost_len: usize, way: *mut u16, way_len: usize, waiting: *mut u32, waiting_len: usize,
-                $(_: $more),*
-            ) -> u64;)*
-        }
-    };
-}
-
-declare! {
-    bannogwy_fresh();
-    bannogwy_count();
-    bannogwy_first_waiting();
-    bannogwy_deliver(usize, usize, usize, usize);
-    bannogwy_run(u32, *mut u64, usize);
-    bannogwy_lookup(usize, usize, *const u8, usize);
-    bannogwy_carry(usize, usize, *const u8, usize, usize, *mut u64, usize);
-}
-
-extern "C" {
-    fn bannogwy_stack_count(p: usize, h: usize) -> u64;
-    fn bannogwy_number_of(p: usize, h: usize, stack: *const u8, stack_len: usize) -> u64;
-    fn bannogwy_stack_of(p: usize, h: usize, number: usize, out: *mut u8, out_len: usize) -> u64;
-    fn bannogwy_applied(p: usize, h: usize, function: usize, number: usize) -> u64;
-    fn bannogwy_inverse_of(p: usize, function: usize) -> u64;
-}
 
 const FLAG: u64 = 1 << 62;
 
 pub fn refused(number: u64) -> u64 {
     1 << 63 | number
-}
-
-pub fn is_refused(answer: u64) -> bool {
-    answer >> 63 == 1
 }
 
 // a first waiting message, and a forward, as the header packs them

@@ -1,46 +1,10 @@
-// All that is lent to a call, and the library's calls as include/bannogwy.h declares them.
+// All that is lent to a call, and the call itself.
+use crate::bannogwy::{
+    bannogwy_applied, bannogwy_carry, bannogwy_count, bannogwy_deliver, bannogwy_first_waiting, bannogwy_fresh, bannogwy_inverse_of,
+    bannogwy_lookup, bannogwy_number_of, bannogwy_read_stack, bannogwy_run, bannogwy_stack_count, bannogwy_stack_of, bannogwy_tally_add,
+};
 use crate::call::Call;
 use crate::memory::{Lent, Slice, Vast};
-
-macro_rules! declare {
-    ($($name:ident($($more:ty),*);)*) => {
-        extern "C" {
-            $(fn $name(
-                n: usize, p: usize, h: usize, links: *const u16, links_len: usize, functions: *const u16, functions_len: usize,
-                cost: *mut u32, cost_len: usize, way: *mut u16, way_len: usize, waiting: *mut u32, waiting_len: usize,
-                $(_: $more),*
-            ) -> u64;)*
-        }
-    };
-}
-
-declare! {
-    bannogwy_fresh();
-    bannogwy_count();
-    bannogwy_first_waiting();
-    bannogwy_deliver(usize, usize, usize, usize);
-    bannogwy_run(u32, *mut u64, usize);
-    bannogwy_lookup(usize, usize, *const u8, usize);
-    bannogwy_carry(usize, usize, *const u8, usize, usize, *mut u64, usize);
-}
-
-extern "C" {
-    fn bannogwy_tally_add(tally: *mut u32, deliveries: u64, offers: u64, refused: u32);
-    fn bannogwy_stack_count(p: usize, h: usize) -> u64;
-    fn bannogwy_number_of(p: usize, h: usize, stack: *const u8, stack_len: usize) -> u64;
-    fn bannogwy_stack_of(p: usize, h: usize, number: usize, out: *mut u8, out_len: usize) -> u64;
-    fn bannogwy_applied(p: usize, h: usize, function: usize, number: usize) -> u64;
-    fn bannogwy_inverse_of(p: usize, function: usize) -> u64;
-    fn bannogwy_read_stack(
-        h: usize,
-        packet: *const u8,
-        packet_len: usize,
-        out: *mut u8,
-        out_len: usize,
-        answer: *mut u64,
-        answer_len: usize,
-    ) -> u64;
-}
 
 // the network and the table, lent to each of the seven calls
 pub struct Common {
@@ -119,7 +83,7 @@ impl Case {
                 call!(common, bannogwy_carry, node, destination, stack, height, limit, answer, answer_len)
             }
             Call::TallyAdd { deliveries, offers, refused } => {
-                bannogwy_tally_add(self.tally.pointer(), deliveries, offers, refused);
+                bannogwy_tally_add(self.tally.pointer().cast(), deliveries, offers, refused);
                 u64::from((0..3).any(|counter| *self.tally.pointer().add(counter) == u32::MAX))
             }
             Call::StackCount { p, h } => bannogwy_stack_count(p, h),

@@ -4,6 +4,8 @@
 #![allow(unknown_lints)]
 #![allow(unexpected_cfgs)]
 
+#[path = "../../include/bannogwy.rs"]
+mod bannogwy;
 mod call;
 mod case;
 mod draw_call;
