@@ -1,8 +1,7 @@
 // A gateway hears a message: it offers itself every row that leads to the stack heard of. Total; the contract is in specs/Answers.antt.
 ghost use mathlib.Core.Path.{_≡_};
-ghost use mathlib.Core.List.{List, []};
+ghost use mathlib.Core.List.{List};
 ghost use Prim.Native.Nat.{ℕ, _≤_, _<_};
-ghost use lib.ListN.{getD};
 ghost use Rattle.hear.specs.Answers.{gatewayOf, messageOf, rowsOf, Hears};
 ghost use Rattle.hear.specs.Steps.{Offered, Goes, Sized, Lent, messageIn, goodNumbers, goodLengths};
 
@@ -25,13 +24,6 @@ fn wide(x: u16) -> u32
     ensures { λ r. ⌜ (r ≡ x) × (r < 65536) ⌝ }
 {
     x as u32
-}
-
-fn entry(grid: [[u16; 8]; 8], a: usize, b: usize) -> u16
-    requires { ⌜ (a < 8) × (b < 8) ⌝ }
-    ensures { λ r. ⌜ r ≡ getD (getD grid a []) b 0 ⌝ }
-{
-    grid[a][b]
 }
 
 // The function f, which makes the heard stack of the stack n, makes its offer to the row of n; answers how many rows take it.
@@ -89,7 +81,7 @@ fn converts(
     let mut count: usize = 0;
     let mut a: usize = 0;
     while a < p {
-        let word = entry(convert, a, top);
+        let word = convert[a][top];
         let f = 8 * a + top;
         let n = p * rest + a + 1;
         count += offered(most, neighbours, told, word, f, n, costs, ways, waiting);
@@ -119,7 +111,7 @@ fn wrapped(
         return 0;
     }
     let under = (rest - 1) % p;
-    let word = entry(wrap, under, top);
+    let word = wrap[under][top];
     let f = 64 + 8 * under + top;
     offered(most, neighbours, told, word, f, rest, costs, ways, waiting)
 }
@@ -143,7 +135,7 @@ fn unwraps(
     let mut count: usize = 0;
     let mut b: usize = 0;
     while b < p {
-        let word = entry(unwrap, top, b);
+        let word = unwrap[top][b];
         let f = 128 + 8 * top + b;
         let n = p * told.number + b + 1;
         count += offered(most, neighbours, told, word, f, n, costs, ways, waiting);

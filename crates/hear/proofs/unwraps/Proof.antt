@@ -1,8 +1,12 @@
 -- `hear::unwraps` meets its contract. The invariant: the functions below 128 + 8 top + b have made their offers.
+-- The grid goes to memory once, at the start, and is read there; as an argument it is `t4`.
 use Prim.Native.Nat.{ℕ, _+_, _-_, _*_, _≤_}
-use mathlib.Core.List.{List}
+use mathlib.Core.Path.{refl}
+use mathlib.Core.List.{List, []}
 use native.Mathlib.Omega.{arith}
 use denote.Ref.{now}
+use lib.ListN.{getD}
+use Rattle.stacks.specs.Stacks.{top}
 use Rattle.hear.specs.Answers.{gatewayOf, rowsOf}
 use Rattle.hear.specs.Steps.{Goes, messageIn}
 use Rattle.hear.proofs.Loops.{AsLong, as-long, still-lent, at-most-one, stays-long, tip-few, above-number, unwrap-turn, unwrap-start, unwrap-end}
@@ -10,12 +14,12 @@ use Rattle.hear.proofs.unwraps.Statement.{statement}
 use Rattle.hear.proofs.unwraps.Tie as tie
 
 abbrev Inv-loop : tie.InvT-loop
-Inv-loop p most neighbours unwrap told costs₀ ways₀ waiting₀ top count₀ b₀ costs ways waiting count b =
+Inv-loop p most neighbours told costs₀ ways₀ waiting₀ unwrap top count₀ b₀ costs ways waiting count b =
     (b ≤ p) × (count ≤ b) × AsLong (rowsOf costs₀ ways₀ waiting₀) (rowsOf costs ways waiting)
     × ((v w : List (List ℕ)) → Goes (gatewayOf p most neighbours v w unwrap) (messageIn told) 128 (128 + 8 * top + b) count (rowsOf costs₀ ways₀ waiting₀) (rowsOf costs ways waiting))
 
 abbrev μ-loop : tie.MeasureT-loop
-μ-loop p most neighbours unwrap told costs₀ ways₀ waiting₀ top count₀ b₀ costs ways waiting count b =
+μ-loop p most neighbours told costs₀ ways₀ waiting₀ unwrap top count₀ b₀ costs ways waiting count b =
     p - b
 
 sub-top : tie.Need-sub-top Inv-loop μ-loop
@@ -33,11 +37,29 @@ loop-holds c =
       omega arith,
       omega arith,
       as-long q,
-      λ v w. unwrap-start (a .p) (a .most) (a .neighbours) v w (a .unwrap) m (start .pre .0) q,
+      λ v w. unwrap-start (a .p) (a .most) (a .neighbours) v w (a .t4) m (start .pre .0) q,
     )
 
-entry-requires : tie.Need-entry-requires Inv-loop μ-loop
-entry-requires c κs =
+mul-word : tie.Need-mul-word Inv-loop μ-loop
+mul-word c =
+    let start = c .before .before .before .before .before .before in
+    let a = start .args in
+    omega (arith, start .pre .0 .few, tip-few (a .p) (a .most) (a .told .number) (start .pre .0))
+
+mul-word-2 : tie.Need-mul-word-2 Inv-loop μ-loop
+mul-word-2 c =
+    let start = c .before .before .before .before .before .before in
+    let a = start .args in
+    omega (arith, start .pre .0 .few, tip-few (a .p) (a .most) (a .told .number) (start .pre .0))
+
+index-1-word : tie.Need-index-1-word Inv-loop μ-loop
+index-1-word c =
+    let start = c .before .before .before .before .before .before in
+    let a = start .args in
+    omega (arith, start .pre .0 .few, tip-few (a .p) (a .most) (a .told .number) (start .pre .0))
+
+index-2-word : tie.Need-index-2-word Inv-loop μ-loop
+index-2-word c =
     let start = c .before .before .before .before .before .before in
     let a = start .args in
     omega (arith, start .pre .0 .few, tip-few (a .p) (a .most) (a .told .number) (start .pre .0))
@@ -100,8 +122,9 @@ add-count c =
     let a = start .args in
     let m = messageIn (a .told) in
     let l = head .loop in
+    let word = getD (getD (a .t4) (top (a .p) (a .told .number)) []) (l .b) 0 in
     let r = rowsOf (l .costs) (l .ways) (l .waiting) in
-    omega (arith, at-most-one (a .most) (a .neighbours) m (read .entry .result) _ _ (called .offered .result) r _ (called .offered .ensures), start .pre .0 .few)
+    omega (arith, at-most-one (a .most) (a .neighbours) m word _ _ (called .offered .result) r _ (called .offered .ensures), start .pre .0 .few)
 
 add-b : tie.Need-add-b Inv-loop μ-loop
 add-b c = omega (arith, c .before .before .before .before .before .before .before .before .before .before .before .before .before .before .before .before .before .before .pre .0 .few)
@@ -120,15 +143,16 @@ loop-again c =
     let m = messageIn (a .told) in
     let q = rowsOf (now (a .costs)) (now (a .ways)) (now (a .waiting)) in
     let l = head .loop in
+    let word = getD (getD (a .t4) (top (a .p) (a .told .number)) []) (l .b) 0 in
     let r = rowsOf (l .costs) (l .ways) (l .waiting) in
     let o = called .offered .ensures in
     let h = still-lent (a .most) m q r (start .pre .1) (l .inv .2) in
-    let few = at-most-one (a .most) (a .neighbours) m (read .entry .result) _ _ (called .offered .result) r _ (called .offered .ensures) in (
+    let few = at-most-one (a .most) (a .neighbours) m word _ _ (called .offered .result) r _ (called .offered .ensures) in (
       omega arith,
       omega arith,
-      stays-long (a .most) (a .neighbours) m (read .entry .result) _ _ (called .offered .result) r _ o q (l .inv .2),
-      λ v w. unwrap-turn (a .p) (a .most) (a .neighbours) v w (a .unwrap) m (start .pre .0) r _ h
-          (l .b) (read .entry .result) (l .count) (called .offered .result) q (omega (arith, turn .loop-test .taken, start .pre .0 .some)) (read .entry .ensures) o (l .inv .3 v w),
+      stays-long (a .most) (a .neighbours) m word _ _ (called .offered .result) r _ o q (l .inv .2),
+      λ v w. unwrap-turn (a .p) (a .most) (a .neighbours) v w (a .t4) m (start .pre .0) r _ h
+          (l .b) word (l .count) (called .offered .result) q (omega (arith, turn .loop-test .taken, start .pre .0 .some)) refl o (l .inv .3 v w),
     )
 
 same-length : tie.Need-same-length Inv-loop μ-loop
@@ -150,7 +174,7 @@ returns c =
     let r = rowsOf (l .costs) (l .ways) (l .waiting) in
     let z = start .pre .0 in (
       omega (arith, z .few),
-      λ v w. unwrap-end (a .p) (a .most) (a .neighbours) v w (a .unwrap) m z
+      λ v w. unwrap-end (a .p) (a .most) (a .neighbours) v w (a .t4) m z
           (l .b) (l .count) q r (l .inv .0) (c .loop-test .left) (l .inv .3 v w),
     )
 
@@ -163,7 +187,10 @@ unwraps-spec =
     sub-top
     rem-top
     loop-holds
-    entry-requires
+    mul-word
+    mul-word-2
+    index-1-word
+    index-2-word
     mul-f
     add-f
     add-f-2

@@ -1,6 +1,11 @@
 -- `hear::wrapped` meets its contract: nothing below the heard top, or the one offer.
+-- The grid goes to memory once, at the start, and is read there; as an argument it is `t4`.
+use mathlib.Core.Path.{refl}
+use mathlib.Core.List.{[]}
 use native.Mathlib.Omega.{arith}
 use denote.Ref.{now}
+use lib.ListN.{getD}
+use Rattle.stacks.specs.Stacks.{top, rest}
 use Rattle.hear.specs.Answers.{gatewayOf, rowsOf}
 use Rattle.hear.specs.Steps.{messageIn}
 use Rattle.hear.proofs.Turns.{wrap-none}
@@ -27,13 +32,31 @@ returns c =
     let a = start .args in
     let m = messageIn (a .told) in
     let q = rowsOf (now (a .costs)) (now (a .ways)) (now (a .waiting)) in
-    (omega arith, λ v u. wrap-none (gatewayOf (a .p) (a .most) (a .neighbours) v (a .wrap) u) m (start .pre .0) q (c .if1 .taken))
+    (omega arith, λ v u. wrap-none (gatewayOf (a .p) (a .most) (a .neighbours) v (a .t4) u) m (start .pre .0) q (c .if1 .taken))
 
 rem-under : tie.Need-rem-under
 rem-under c = search needs
 
-entry-requires : tie.Need-entry-requires
-entry-requires c κs =
+mul-word : tie.Need-mul-word
+mul-word c =
+    let start = c .before .before .before .before .before .before in
+    let a = start .args in
+    omega (arith, under-few (a .p) (a .most) (a .told .number) (start .pre .0), tip-few (a .p) (a .most) (a .told .number) (start .pre .0))
+
+mul-word-2 : tie.Need-mul-word-2
+mul-word-2 c =
+    let start = c .before .before .before .before .before .before in
+    let a = start .args in
+    omega (arith, under-few (a .p) (a .most) (a .told .number) (start .pre .0), tip-few (a .p) (a .most) (a .told .number) (start .pre .0))
+
+index-1-word : tie.Need-index-1-word
+index-1-word c =
+    let start = c .before .before .before .before .before .before in
+    let a = start .args in
+    omega (arith, under-few (a .p) (a .most) (a .told .number) (start .pre .0), tip-few (a .p) (a .most) (a .told .number) (start .pre .0))
+
+index-2-word : tie.Need-index-2-word
+index-2-word c =
     let start = c .before .before .before .before .before .before in
     let a = start .args in
     omega (arith, under-few (a .p) (a .most) (a .told .number) (start .pre .0), tip-few (a .p) (a .most) (a .told .number) (start .pre .0))
@@ -81,10 +104,11 @@ returns-2 c =
     let a = start .args in
     let m = messageIn (a .told) in
     let q = rowsOf (now (a .costs)) (now (a .ways)) (now (a .waiting)) in
+    let word = getD (getD (a .t4) (top (a .p) (rest (a .p) (a .told .number))) []) (top (a .p) (a .told .number)) 0 in
     let o = called .offered .ensures in (
-      at-most-one (a .most) (a .neighbours) m (read .entry .result) _ _ (called .offered .result) q _ o,
-      λ v u. wrap-turn (a .p) (a .most) (a .neighbours) v (a .wrap) u m (start .pre .0) q _ (start .pre .1)
-          (read .entry .result) (called .offered .result) (first .if1 .left) (read .entry .ensures) o,
+      at-most-one (a .most) (a .neighbours) m word _ _ (called .offered .result) q _ o,
+      λ v u. wrap-turn (a .p) (a .most) (a .neighbours) v (a .t4) u m (start .pre .0) q _ (start .pre .1)
+          word (called .offered .result) (first .if1 .left) refl o,
     )
 
 pub wrapped-spec : {M : Type 1} → statement M
@@ -97,7 +121,10 @@ wrapped-spec =
     div-rest
     returns
     rem-under
-    entry-requires
+    mul-word
+    mul-word-2
+    index-1-word
+    index-2-word
     mul-f
     add-f
     add-f-2
