@@ -6,7 +6,7 @@ use native.Mathlib.Numerals.{one-add}
 use native.Mathlib.Decide.{decLt}
 use native.Mathlib.Omega.{arith}
 use lib.Pow.{pow-lt, pow-mono, pow-add, shl-shr, shl-exact, shr-shr}
-use lib.Bits.{bitAnd, bitOr, bitXor, and-shr, or-shr, xor-shr, and-mod, or-mod, xor-mod, and-high, and-zero-r, or-zero-r, xor-zero-r, xor-add-and, shifted-even}
+use lib.Bits.{bitAnd, bitOr, bitXor, and-shr, or-shr, xor-shr, and-mod, or-mod, xor-mod, and-le-l, and-le-r, or-add-and, and-high, and-zero-r, or-zero-r, xor-zero-r, xor-add-and, shifted-even}
 use Rattle.words.specs.Words.{bit}
 
 pub bit-lt : (w v : ℕ) → bit w v < 2
@@ -36,6 +36,10 @@ bit-or a b v = ap (λ (x : ℕ). x % 2) (or-shr a b v) ∙ or-mod (a / 2 ^ v) (b
 
 bit-xor : (a b v : ℕ) → bit (bitXor a b) v ≡ bitXor (bit a v) (bit b v)
 bit-xor a b v = ap (λ (x : ℕ). x % 2) (xor-shr a b v) ∙ xor-mod (a / 2 ^ v) (b / 2 ^ v) 1
+
+-- an OR is 0 only where both sides are
+pub zero-of-or : (a b : ℕ) → bitOr a b ≡ 0 → (a ≡ 0) × (b ≡ 0)
+zero-of-or a b e = (omega (arith, or-add-and a b, and-le-r a b), omega (arith, or-add-and a b, and-le-l a b))
 
 -- ---- 2 ^ v: what `1u32 << v` computes to, and its bits
 pub shl-one : (v : ℕ) → v < 32 → (1 * 2 ^ v) % 2 ^ 32 ≡ 2 ^ v

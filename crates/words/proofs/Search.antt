@@ -7,10 +7,12 @@ use native.Mathlib.Decide.{decLt}
 use native.Mathlib.Numerals.{add-one}
 use native.Mathlib.Omega.{arith}
 use borrow.Author.Tests.{eq-eqb, ne-eqb, le-leb, lt-leb}
+use lib.Bits.{bitOr}
 use lib.ListN.{length, take, drop, getD, length-drop, drop-of-length-le}
 use lib.Seq.{drop-cons, take-all}
 use Rattle.words.specs.declared.Found.the-variants.{Nowhere, At}
 use Rattle.words.specs.Words.{lowest, onesOf, onesIn, countOf, firstFrom, firstBetween}
+use Rattle.words.proofs.Bits.{zero-of-or}
 
 -- ---- the count
 pub count-few : (ws : List ℕ) → length ws ≤ 524288 → countOf ws ≡ onesIn ws
@@ -49,6 +51,22 @@ first-next ws i to h l z =
     ap (λ (xs : List ℕ). firstFrom i xs) (part-cons ws i to h l)
     ∙ ap (λ (t : Bool). cond t (firstFrom (suc i) (take (to - (i + 1)) (drop (i + 1) ws))) (At i (lowest (getD ws i 0)))) (eq-eqb (getD ws i 0) 0 z)
     ∙ ap (λ (n : ℕ). firstFrom n (take (to - (i + 1)) (drop (i + 1) ws))) (sym (add-one i))
+
+-- four words whose OR is 0 are passed over at once
+pub first-four : (ws : List ℕ) (i to : ℕ) → i + 3 < to → to ≤ length ws
+    → bitOr (bitOr (bitOr (getD ws i 0) (getD ws (i + 1) 0)) (getD ws (i + 2) 0)) (getD ws (i + 3) 0) ≡ 0
+    → firstBetween i to ws ≡ firstBetween (i + 4) to ws
+first-four ws i to h l z =
+    let three = zero-of-or (bitOr (bitOr (getD ws i 0) (getD ws (i + 1) 0)) (getD ws (i + 2) 0)) (getD ws (i + 3) 0) z in
+    let two = zero-of-or (bitOr (getD ws i 0) (getD ws (i + 1) 0)) (getD ws (i + 2) 0) (three .0) in
+    let one = zero-of-or (getD ws i 0) (getD ws (i + 1) 0) (two .0) in
+    next i (i + 1) (omega arith) (omega arith) (one .0)
+    ∙ next (i + 1) (i + 2) (omega arith) (omega arith) (one .1)
+    ∙ next (i + 2) (i + 3) (omega arith) (omega arith) (two .1)
+    ∙ next (i + 3) (i + 4) (omega arith) (omega arith) (three .1)
+  where
+    next : (k n : ℕ) → n ≡ k + 1 → k < to → getD ws k 0 ≡ 0 → firstBetween k to ws ≡ firstBetween n to ws
+    next k n e m q = first-next ws k to m (omega arith) q ∙ ap (λ (j : ℕ). firstBetween j to ws) (sym e)
 
 pub first-end : (ws : List ℕ) (i to : ℕ) → to ≤ i → firstBetween i to ws ≡ Nowhere
 unfolding firstBetween firstFrom

@@ -1,6 +1,7 @@
 // Waiting words: bit v of a word is set where a message about the word's row waits for neighbour v. Every function is total.
 ghost use mathlib.Core.Path.{_≡_};
-ghost use Prim.Native.Nat.{min};
+ghost use Prim.Native.Nat.{min, _≤_};
+ghost use lib.ListN.{length};
 ghost use Rattle.words.specs.Words.{has, without, withAll, withOne, lowest, onesOf, countOf, firstBetween};
 
 // Where a search ended: the place of a word in the slice, and the number of its lowest bit.
@@ -78,12 +79,31 @@ fn smaller(a: usize, b: usize) -> usize
     if a < b { a } else { b }
 }
 
+// A place to start the search at: the words passed over, four at a time, are all 0.
+fn skipped(words: &[u32], from: usize, end: usize) -> usize
+    requires { ⌜ end ≤ length (now words) ⌝ }
+    ensures { λ r. ⌜ firstBetween r end (now (words .entry)) ≡ firstBetween from end (now (words .entry)) ⌝ }
+{
+    if end < 4 {
+        return from;
+    }
+    let stop = end - 3; // below it four words fit: i + 4 itself could wrap
+    let mut i = from;
+    while i < stop {
+        if (words[i] | words[i + 1] | words[i + 2] | words[i + 3]) != 0 {
+            return i;
+        }
+        i += 4;
+    }
+    i
+}
+
 // The first word that is not 0 at the places from .. to - 1 that the slice has, and its lowest bit.
 pub fn first_in(words: &[u32], from: usize, to: usize) -> Found
     ensures { λ r. ⌜ r ≡ firstBetween from to (now (words .entry)) ⌝ }
 {
     let end = smaller(to, words.len());
-    let mut i = from;
+    let mut i = skipped(words, from, end);
     while i < end {
         let word = words[i];
         if word != 0 {

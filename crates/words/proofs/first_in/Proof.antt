@@ -17,10 +17,13 @@ abbrev μ-loop : tie.MeasureT-loop
 smaller-requires : tie.Need-smaller-requires Inv-loop μ-loop
 smaller-requires c κs = tt
 
+skipped-requires : tie.Need-skipped-requires Inv-loop μ-loop
+skipped-requires c κs = omega arith
+
 loop-holds : tie.Need-loop-holds Inv-loop μ-loop
 loop-holds c =
-    let a = c .before .before .args in
-    ap (λ (n : ℕ). firstBetween (a .from) n (a .words .now)) (c .smaller .ensures) ∙ first-cut (a .words .now) (a .from) (a .to)
+    let a = c .before .before .before .args in
+    c .skipped .ensures ∙ ap (λ (n : ℕ). firstBetween (a .from) n (a .words .now)) (c .before .smaller .ensures) ∙ first-cut (a .words .now) (a .from) (a .to)
 
 mul-word : tie.Need-mul-word Inv-loop μ-loop
 mul-word c = omega arith
@@ -33,9 +36,9 @@ lowest-requires c κs = tt
 
 returns : tie.Need-returns Inv-loop μ-loop
 returns c =
-    let words = c .before .before .before .before .before .before .before .args .words .now in
+    let words = c .before .before .before .before .before .before .before .before .args .words .now in
     let i = c .before .before .before .before .loop .i in
-    let end = c .before .before .before .before .before .smaller .result in
+    let end = c .before .before .before .before .before .before .smaller .result in
     ap (λ (v : ℕ). At i v) (c .lowest .ensures)
     ∙ sym (first-here words i end (omega arith) (omega arith) (c .before .if1 .taken))
     ∙ c .before .before .before .before .loop .inv
@@ -48,15 +51,15 @@ loop-less c = omega arith
 
 loop-again : tie.Need-loop-again Inv-loop μ-loop
 loop-again c =
-    let words = c .before .before .before .before .before .before .args .words .now in
+    let words = c .before .before .before .before .before .before .before .args .words .now in
     let i = c .before .before .before .loop .i in
-    let end = c .before .before .before .before .smaller .result in
+    let end = c .before .before .before .before .before .smaller .result in
     sym (first-next words i end (omega arith) (omega arith) (c .if1 .left)) ∙ c .before .before .before .loop .inv
 
 returns-2 : tie.Need-returns-2 Inv-loop μ-loop
 returns-2 c =
-    let words = c .before .before .before .before .args .words .now in
-    let end = c .before .before .smaller .result in
+    let words = c .before .before .before .before .before .args .words .now in
+    let end = c .before .before .before .smaller .result in
     sym (first-end words (c .before .loop .i) end (omega arith)) ∙ c .before .loop .inv
 
 pub first-in-spec : {M : Type 1} → statement M
@@ -66,6 +69,7 @@ first-in-spec =
     Inv-loop
     μ-loop
     smaller-requires
+    skipped-requires
     loop-holds
     mul-word
     shared-slice-read-word
