@@ -1,15 +1,17 @@
 -- What one turn of a run does, from what the search found and what the delivery answered.
-use Prim.Native.Nat.{ℕ, _+_, _*_, _/_, _%_, _≤_, _<_}
+use Prim.Native.Nat.{ℕ, _+_, _*_, _/_, _%_, _≤_, _<_, _^_}
 use native.Mathlib.Nat.{mul-le-mul, mul-le-mul-right}
 use native.Mathlib.Omega.{arith}
 use mathlib.Core.Path.{_≡_, refl, sym, ap, _∙_, subst}
 use mathlib.Core.List.{List}
 use mathlib.Core.Bool.{Bool, true, false, cond}
-use lib.ListN.{length}
+use lib.ListN.{length, getD}
 use lib.Dec.{eqb}
 use borrow.Author.Tests.{eqb-true, eq-eqb}
 use Rattle.words.specs.Words.{firstIn}
 use Rattle.words.specs.declared.Found.{Found}
+use Rattle.words.proofs.Answers.{first-at, first-whole}
+use Rattle.words.proofs.LowestBit.{lowest-below}
 use Rattle.stacks.proofs.Tests.{sizes}
 use Rattle.stacks.proofs.Count.{count-some}
 use Rattle.network.specs.Network.{Network, stacks}
@@ -103,6 +105,13 @@ module _ (net : Network) (s : ℕ) (same : s ≡ stacks net) (t : Table) (flags 
     -- and the receiver is a node
     pub receiver-low : (x : ℕ) → stepAnswer net t (i / s / net .n) U (i / s % net .n) (i % s + 1) ≡ Delivered.Rows x → U < net .n
     receiver-low x e = goes net t (i / s / net .n) U (i / s % net .n) (i % s + 1) (rows-means net t (i / s / net .n) U (i / s % net .n) (i % s + 1) x e .0) .receiver
+
+-- ---- a word of 32 bits that waits names a receiver below 32
+pub bit-low : (ws : List ℕ) (i U : ℕ) → ((k : ℕ) → getD ws k 0 < 2 ^ 32) → firstIn ws ≡ Found.At i U → U < 32
+bit-low ws i U fit found =
+    let h = first-at ws 0 (length ws) i U (first-whole ws ∙ found) in
+    let some : 0 < getD ws i 0 = omega (arith, h .waits) in
+    omega (arith, h .lowest-bit, lowest-below (getD ws i 0) some (fit i))
 
 -- ---- what the turns may count on
 pub record Sure (net : Network) (s waits : ℕ) : Type 0 where

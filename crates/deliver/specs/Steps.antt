@@ -1,9 +1,12 @@
 -- What private functions answer on the way; no public contract cites it.
 use Prim.Native.Nat.{ℕ, _<_, _≤_}
 use mathlib.Core.Path.{_≡_}
+use mathlib.Core.List.{List, []}
 use mathlib.Core.Bool.{cond}
+use lib.ListN.{getD}
 use lib.Dec.{eqb}
-use Rattle.network.specs.Network.{Network, stacks, refusalOf}
+use Rattle.network.specs.Network.{Network, stacks, neighbours, refusalOf}
+use Rattle.network.specs.Answers.{gridOf}
 use Rattle.hear.specs.Hearing.{Message, heard, taken}
 use Rattle.table.specs.Table.{Table, ceiling, rowsAll, rowsOf, withRows, gateway, delivered, offersTaken}
 use Rattle.table.specs.Answers.{stepRefusal}
@@ -16,6 +19,17 @@ pub record Prepared (net : Network) (s costs ways waits : ℕ) : Type 0 where
   pub cost-long : costs ≡ rowsAll net
   pub way-long : ways ≡ rowsAll net
   pub waiting-long : waits ≡ rowsAll net
+
+-- what else they may count on, where the receiver U is a node: the neighbours and the grids that they are handed are its own
+pub record Equipped (net : Network) (U near : ℕ) (convert wrap unwrap : List (List ℕ)) : Type 0 where
+  pub near-are : near ≡ neighbours net U
+  pub converts : convert ≡ gridOf (net .n) (net .p) (net .functions) U 0
+  pub wraps : wrap ≡ gridOf (net .n) (net .p) (net .functions) U 1
+  pub unwraps : unwrap ≡ gridOf (net .n) (net .p) (net .functions) U 2
+
+-- and a turn of a run: those of every node
+pub record AllEquipped (net : Network) (near : List ℕ) (converts wraps unwraps : List (List (List ℕ))) : Type 0 where
+  pub each : (U : ℕ) → U < net .n → Equipped net U (getD near U 0) (getD converts U []) (getD wraps U []) (getD unwraps U [])
 
 -- what `receive` may count on besides, since `step` tested it
 pub record Sent (net : Network) (Q U D N c : ℕ) : Type 0 where

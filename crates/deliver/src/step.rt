@@ -5,7 +5,7 @@ ghost use lib.ListN.{length, getD};
 ghost use Rattle.network.specs.Network.{networkOf};
 ghost use Rattle.hear.specs.Answers.{messageOf};
 ghost use Rattle.table.specs.Table.{tableOf};
-ghost use Rattle.deliver.specs.Steps.{Prepared, Sent, Receives, stepAnswer, stepTable};
+ghost use Rattle.deliver.specs.Steps.{Prepared, Equipped, Sent, Receives, stepAnswer, stepTable};
 use hear::Heard;
 use table::Delivered;
 
@@ -18,7 +18,7 @@ fn read_cost(rows: &[u32], at: usize) -> u32
 }
 
 // The receiver hears a message that tells the cost `told` and came over a link that costs `link` back: its rows are lent to be written.
-// (No code reads h: the contract speaks of the network, of which it is a part.)
+// (No code reads h, links or functions: the contract speaks of the network, of which they are parts.)
 fn receive(
     n: usize,
     p: usize,
@@ -29,6 +29,10 @@ fn receive(
     cost: &mut [u32],
     way: &mut [u16],
     waiting: &mut [u32],
+    neighbours: u32,
+    convert: [[u16; 8]; 8],
+    wrap: [[u16; 8]; 8],
+    unwrap: [[u16; 8]; 8],
     sender: usize,
     receiver: usize,
     destination: usize,
@@ -37,6 +41,7 @@ fn receive(
     link: u16,
 ) -> Delivered
     requires { ⌜ Prepared (networkOf n p h (now links) (now functions)) stacks (length (now cost)) (length (now way)) (length (now waiting)) ⌝ }
+    requires { ⌜ Equipped (networkOf n p h (now links) (now functions)) receiver neighbours convert wrap unwrap ⌝ }
     requires { ⌜ Sent (networkOf n p h (now links) (now functions)) sender receiver destination number told ⌝ }
     ensures { λ r.
         ⌜
@@ -47,10 +52,6 @@ fn receive(
     let rows = n * stacks;
     let from = receiver * rows;
     let to = from + rows;
-    let neighbours = network::neighbours(n, links, receiver);
-    let convert = network::grid(n, p, functions, receiver, 0);
-    let wrap = network::grid(n, p, functions, receiver, 1);
-    let unwrap = network::grid(n, p, functions, receiver, 2);
     match hear::hear(
         p,
         stacks,
@@ -72,7 +73,7 @@ fn receive(
     }
 }
 
-// The refusals 4, 5 and 7, or the delivery. The receiver's rows are lent only after the sender's cost is read.
+// The refusals 4, 5 and 7, or the delivery, to a receiver with these neighbours and grids. Its rows are lent only after the sender's cost is read.
 pub(crate) fn step(
     n: usize,
     p: usize,
@@ -83,12 +84,17 @@ pub(crate) fn step(
     cost: &mut [u32],
     way: &mut [u16],
     waiting: &mut [u32],
+    neighbours: u32,
+    convert: [[u16; 8]; 8],
+    wrap: [[u16; 8]; 8],
+    unwrap: [[u16; 8]; 8],
     sender: usize,
     receiver: usize,
     destination: usize,
     number: usize,
 ) -> Delivered
     requires { ⌜ Prepared (networkOf n p h (now links) (now functions)) stacks (length (now cost)) (length (now way)) (length (now waiting)) ⌝ }
+    requires { ⌜ ((receiver < n) → Equipped (networkOf n p h (now links) (now functions)) receiver neighbours convert wrap unwrap) ⌝ }
     ensures { λ r.
         ⌜
         (r ≡ stepAnswer (networkOf n p h (now (links .entry)) (now (functions .entry))) (tableOf (now (cost .entry)) (now (way .entry)) (now (waiting .entry))) sender receiver destination number)
@@ -138,6 +144,10 @@ pub(crate) fn step(
         cost,
         way,
         waiting,
+        neighbours,
+        convert,
+        wrap,
+        unwrap,
         sender,
         receiver,
         destination,

@@ -1,14 +1,16 @@
 // The turns of a run, in a network and a table that `ready` found right.
 ghost use mathlib.Core.Path.{_≡_};
 ghost use mathlib.Core.Bool.{true};
+ghost use mathlib.Core.List.{[]};
 ghost use Prim.Native.Nat.{ℕ, _≤_, _<_};
-ghost use lib.ListN.{length};
+ghost use lib.ListN.{length, getD};
 ghost use Rattle.words.specs.Words.{wordOf};
-ghost use Rattle.network.specs.Network.{networkOf};
+ghost use Rattle.network.specs.Network.{networkOf, neighboursAt};
+ghost use Rattle.network.specs.Answers.{gridOf};
 ghost use Rattle.table.specs.Table.{tableOf};
 ghost use Rattle.table.specs.Run.{Runs, steps};
 ghost use Rattle.deliver.specs.Flags.{Flagged};
-ghost use Rattle.deliver.specs.Steps.{Prepared};
+ghost use Rattle.deliver.specs.Steps.{Prepared, AllEquipped};
 ghost use Rattle.deliver.specs.Turns.{Turned, flagsAfter};
 use crate::search::search_flagged;
 use crate::step::step;
@@ -33,6 +35,34 @@ fn flag_block(flags: &mut [u32], receiver: usize, destination: usize, offers: us
     }
 }
 
+// The neighbours of every node, so that a run works them out once.
+fn all_neighbours(n: usize, links: &[u16]) -> [u32; 32]
+    requires { ⌜ n ≤ 32 ⌝ }
+    ensures { λ r. ⌜ ((u : ℕ) → u < n → getD r u 0 ≡ neighboursAt n (now (links .entry)) u) ⌝ }
+{
+    let mut words = [0u32; 32];
+    let mut node: usize = 0;
+    while node < n {
+        words[node] = network::neighbours(n, links, node);
+        node += 1;
+    }
+    words
+}
+
+// The grids of one kind of every node, likewise.
+fn all_grids(n: usize, p: usize, functions: &[u16], kind: usize) -> [[[u16; 8]; 8]; 32]
+    requires { ⌜ n ≤ 32 ⌝ }
+    ensures { λ r. ⌜ ((u : ℕ) → u < n → getD r u [] ≡ gridOf n p (now (functions .entry)) u kind) ⌝ }
+{
+    let mut grids = [[[0u16; 8]; 8]; 32];
+    let mut node: usize = 0;
+    while node < n {
+        grids[node] = network::grid(n, p, functions, node, kind);
+        node += 1;
+    }
+    grids
+}
+
 // First waiting and then deliver, once. The flags say which blocks of rows may hold a message.
 fn take_turn(
     n: usize,
@@ -45,9 +75,14 @@ fn take_turn(
     way: &mut [u16],
     waiting: &mut [u32],
     flags: &mut [u32],
+    neighbours: [u32; 32],
+    converts: [[[u16; 8]; 8]; 32],
+    wraps: [[[u16; 8]; 8]; 32],
+    unwraps: [[[u16; 8]; 8]; 32],
 ) -> Turn
     requires { ⌜ Prepared (networkOf n p h (now links) (now functions)) stacks (length (now cost)) (length (now way)) (length (now waiting)) ⌝ }
     requires { ⌜ Flagged n stacks (now flags) (now waiting) ⌝ }
+    requires { ⌜ AllEquipped (networkOf n p h (now links) (now functions)) neighbours converts wraps unwraps ⌝ }
     ensures { λ r.
         ⌜
         Turned (networkOf n p h (now (links .entry)) (now (functions .entry))) stacks (tableOf (now (cost .entry)) (now (way .entry)) (now (waiting .entry)))
@@ -69,6 +104,10 @@ fn take_turn(
                 cost,
                 way,
                 waiting,
+                neighbours[receiver],
+                converts[receiver],
+                wraps[receiver],
+                unwraps[receiver],
                 sender,
                 receiver,
                 destination,
@@ -119,6 +158,10 @@ pub(crate) fn runs(
         r (tableOf (now (cost .exit)) (now (way .exit)) (now (waiting .exit)))
         ⌝ }
 {
+    let neighbours = all_neighbours(n, links);
+    let converts = all_grids(n, p, functions, 0);
+    let wraps = all_grids(n, p, functions, 1);
+    let unwraps = all_grids(n, p, functions, 2);
     let mut flags = [all_flags(n); 32];
     let mut done: u32 = 0;
     let mut offers: u64 = 0;
@@ -134,6 +177,10 @@ pub(crate) fn runs(
             way,
             waiting,
             &mut flags,
+            neighbours,
+            converts,
+            wraps,
+            unwraps,
         ) {
             Turn::Offers(taken) => {
                 offers += taken as u64;

@@ -26,8 +26,22 @@ enum-known-stacks c = search needs
 
 step-requires : tie.Need-step-requires
 step-requires c κs =
-    let s = c .before .before .before .before .before .before .before .before .before .before .before .before in
-    prepared (net s) (tab s) (c .before .before .before .before .stacks .given .0 .0) (right (c .before .before .before .before))
+    let s = c .before .before .before .before .before .before .before .before .before .before .before .before .before .before .before .before in (
+      prepared (net s) (tab s) (c .before .before .before .before .before .before .before .before .stacks .given .0 .0) (right (c .before .before .before .before .before .before .before .before)),
+      λ known. record { near-are = c .before .before .before .neighbours .ensures; converts = c .before .before .grid .ensures; wraps = c .before .grid2 .ensures; unwraps = c .grid3 .ensures },
+    )
+
+neighbours-requires : tie.Need-neighbours-requires
+neighbours-requires c κs = search needs
+
+grid-requires : tie.Need-grid-requires
+grid-requires c κs = search needs
+
+grid-requires-2 : tie.Need-grid-requires-2
+grid-requires-2 c κs = search needs
+
+grid-requires-3 : tie.Need-grid-requires-3
+grid-requires-3 c κs = search needs
 
 enum-known-refusal : tie.Need-enum-known-refusal
 enum-known-refusal c = search needs
@@ -43,10 +57,10 @@ same-length-3 c = search needs
 
 returns : tie.Need-returns
 returns c =
-    let s = c .before .before .before .before .before .before .before .before .before .before .before .before .before .before .before .before .before .before .before in
+    let s = c .before .before .before .before .before .before .before .before .before .before .before .before .before .before .before .before .before .before .before .before .before .before .before in
     let a = s .args in
-    delivers-so (net s) (tab s) (a .sender) (a .receiver) (a .destination) (a .number) (c .before .before .before .before .before .before .before .before .before .before .before .stacks .given .0 .0) (c .before .before .before .before .before .before .step .result)
-    (tableOf (c .before .before .before .before .before .before .step .last .1 .1 .1 .1 .1 .1 .0) (c .before .before .before .before .before .before .step .last .1 .1 .1 .1 .1 .1 .1 .0) (c .before .before .before .before .before .before .step .last .1 .1 .1 .1 .1 .1 .1 .1 .0)) (right (c .before .before .before .before .before .before .before .before .before .before .before)) (c .before .before .before .before .before .before .step .ensures)
+    delivers-so (net s) (tab s) (a .sender) (a .receiver) (a .destination) (a .number) (c .before .before .before .before .before .before .before .before .before .before .before .before .before .before .before .stacks .given .0 .0) (c .before .before .before .before .before .before .step .result)
+    (tableOf (c .before .before .before .before .before .before .step .last .1 .1 .1 .1 .1 .1 .0) (c .before .before .before .before .before .before .step .last .1 .1 .1 .1 .1 .1 .1 .0) (c .before .before .before .before .before .before .step .last .1 .1 .1 .1 .1 .1 .1 .1 .0)) (right (c .before .before .before .before .before .before .before .before .before .before .before .before .before .before .before)) (c .before .before .before .before .before .before .step .ensures)
 
 returns-2 : tie.Need-returns-2
 returns-2 c =
@@ -61,6 +75,10 @@ deliver-spec =
     (tie.spec
     ready-requires
     enum-known-stacks
+    neighbours-requires
+    grid-requires
+    grid-requires-2
+    grid-requires-3
     step-requires
     enum-known-refusal
     same-length

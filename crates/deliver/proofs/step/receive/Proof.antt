@@ -20,23 +20,23 @@ use Rattle.deliver.proofs.step.receive.Tie as tie
 room : (c : tie.Start) → Lends (c .args .n) (c .args .stacks) (c .args .receiver) (length (now (c .args .cost))) (length (now (c .args .way))) (length (now (c .args .waiting)))
 room c =
     let a = c .args in
-    lends (networkOf (a .n) (a .p) (a .h) (now (a .links)) (now (a .functions))) (a .stacks) (length (now (a .cost))) (length (now (a .way))) (length (now (a .waiting))) (a .receiver) (c .pre .0) (c .pre .1 .hears)
+    lends (networkOf (a .n) (a .p) (a .h) (now (a .links)) (now (a .functions))) (a .stacks) (length (now (a .cost))) (length (now (a .way))) (length (now (a .waiting))) (a .receiver) (c .pre .0) (c .pre .1 .1 .hears)
 
 -- what `hear` answered and left, said of the receiver's gateway and the whole table
 abbrev Heard-so : tie.After-hear → Type 0
 Heard-so c =
-    let a = c .before .before .before .before .before .before .before .before .before .before .before .before .before .args in
+    let a = c .before .before .before .before .before .before .before .before .before .args in
     (c .hear .result ≡ Heard.Rows (taken (gateway (networkOf (a .n) (a .p) (a .h) (now (a .links)) (now (a .functions))) (a .receiver)) (messageOf (a .sender) (a .destination) (a .number) (a .told) (a .link)) (rowsOf (networkOf (a .n) (a .p) (a .h) (now (a .links)) (now (a .functions))) (a .receiver) (tableOf (now (a .cost)) (now (a .way)) (now (a .waiting))))))
     × (tableOf (putMid (a .receiver * (a .n * a .stacks)) (a .receiver * (a .n * a .stacks) + a .n * a .stacks - a .receiver * (a .n * a .stacks)) (now (a .cost)) (c .hear .last .1 .1 .1 .1 .1 .1 .1 .1 .1 .1 .1 .0)) (putMid (a .receiver * (a .n * a .stacks)) (a .receiver * (a .n * a .stacks) + a .n * a .stacks - a .receiver * (a .n * a .stacks)) (now (a .way)) (c .hear .last .1 .1 .1 .1 .1 .1 .1 .1 .1 .1 .1 .1 .0)) (putMid (a .receiver * (a .n * a .stacks)) (a .receiver * (a .n * a .stacks) + a .n * a .stacks - a .receiver * (a .n * a .stacks)) (now (a .waiting)) (c .hear .last .1 .1 .1 .1 .1 .1 .1 .1 .1 .1 .1 .1 .1 .0))
     ≡ withRows (networkOf (a .n) (a .p) (a .h) (now (a .links)) (now (a .functions))) (a .receiver) (tableOf (now (a .cost)) (now (a .way)) (now (a .waiting))) (heard (gateway (networkOf (a .n) (a .p) (a .h) (now (a .links)) (now (a .functions))) (a .receiver)) (messageOf (a .sender) (a .destination) (a .number) (a .told) (a .link)) (rowsOf (networkOf (a .n) (a .p) (a .h) (now (a .links)) (now (a .functions))) (a .receiver) (tableOf (now (a .cost)) (now (a .way)) (now (a .waiting))))))
 
 heard-so : (c : tie.After-hear) → Heard-so c
 heard-so c =
-    let s = c .before .before .before .before .before .before .before .before .before .before .before .before .before in
+    let s = c .before .before .before .before .before .before .before .before .before in
     let a = s .args in
-    receives (networkOf (a .n) (a .p) (a .h) (now (a .links)) (now (a .functions))) (tableOf (now (a .cost)) (now (a .way)) (now (a .waiting))) (a .receiver) (messageOf (a .sender) (a .destination) (a .number) (a .told) (a .link)) (a .stacks) (a .receiver * (a .n * a .stacks)) (a .receiver * (a .n * a .stacks) + a .n * a .stacks - a .receiver * (a .n * a .stacks)) (c .before .before .before .before .before .before .before .neighbours .result)
-    (c .before .before .before .before .before .before .grid .result) (c .before .before .before .before .before .grid2 .result) (c .before .before .before .before .grid3 .result) (c .hear .result) (hearing.rowsOf (c .hear .last .1 .1 .1 .1 .1 .1 .1 .1 .1 .1 .1 .0) (c .hear .last .1 .1 .1 .1 .1 .1 .1 .1 .1 .1 .1 .1 .0) (c .hear .last .1 .1 .1 .1 .1 .1 .1 .1 .1 .1 .1 .1 .1 .0))
-    (s .pre .0) (s .pre .1) refl (omega arith) (c .before .before .before .before .before .before .before .neighbours .ensures) (c .before .before .before .before .before .before .grid .ensures) (c .before .before .before .before .before .grid2 .ensures) (c .before .before .before .before .grid3 .ensures) (c .hear .ensures)
+    receives (networkOf (a .n) (a .p) (a .h) (now (a .links)) (now (a .functions))) (tableOf (now (a .cost)) (now (a .way)) (now (a .waiting))) (a .receiver) (messageOf (a .sender) (a .destination) (a .number) (a .told) (a .link)) (a .stacks) (a .receiver * (a .n * a .stacks)) (a .receiver * (a .n * a .stacks) + a .n * a .stacks - a .receiver * (a .n * a .stacks)) (a .neighbours)
+    (a .convert) (a .wrap) (a .unwrap) (c .hear .result) (hearing.rowsOf (c .hear .last .1 .1 .1 .1 .1 .1 .1 .1 .1 .1 .1 .0) (c .hear .last .1 .1 .1 .1 .1 .1 .1 .1 .1 .1 .1 .1 .0) (c .hear .last .1 .1 .1 .1 .1 .1 .1 .1 .1 .1 .1 .1 .1 .0))
+    (s .pre .0) (s .pre .1 .1) refl (omega arith) (s .pre .1 .0 .near-are) (s .pre .1 .0 .converts) (s .pre .1 .0 .wraps) (s .pre .1 .0 .unwraps) (c .hear .ensures)
 
 mul-rows : tie.Need-mul-rows
 mul-rows c = omega (arith, room (c .before .before .before .before .before))
@@ -47,20 +47,8 @@ mul-from c = omega (arith, room (c .before .before .before .before .before))
 add-to : tie.Need-add-to
 add-to c = omega (arith, room (c .before .before .before .before .before))
 
-neighbours-requires : tie.Need-neighbours-requires
-neighbours-requires c κs = search needs
-
-grid-requires : tie.Need-grid-requires
-grid-requires c κs = search needs
-
-grid-requires-2 : tie.Need-grid-requires-2
-grid-requires-2 c κs = search needs
-
-grid-requires-3 : tie.Need-grid-requires-3
-grid-requires-3 c κs = search needs
-
 mul-hear : tie.Need-mul-hear
-mul-hear c = omega (arith, room (c .before .before .before .before .before .before .before .before .before))
+mul-hear c = omega (arith, room (c .before .before .before .before .before))
 
 sub-hear : tie.Need-sub-hear
 sub-hear c = search needs
@@ -69,10 +57,10 @@ part-hear-start : tie.Need-part-hear-start
 part-hear-start c = search needs
 
 part-hear-end : tie.Need-part-hear-end
-part-hear-end c = omega (arith, room (c .before .before .before .before .before .before .before .before .before))
+part-hear-end c = omega (arith, room (c .before .before .before .before .before))
 
 mul-hear-2 : tie.Need-mul-hear-2
-mul-hear-2 c = omega (arith, room (c .before .before .before .before .before .before .before .before .before .before))
+mul-hear-2 c = omega (arith, room (c .before .before .before .before .before .before))
 
 sub-hear-2 : tie.Need-sub-hear-2
 sub-hear-2 c = search needs
@@ -81,10 +69,10 @@ part-hear-start-2 : tie.Need-part-hear-start-2
 part-hear-start-2 c = search needs
 
 part-hear-end-2 : tie.Need-part-hear-end-2
-part-hear-end-2 c = omega (arith, room (c .before .before .before .before .before .before .before .before .before .before))
+part-hear-end-2 c = omega (arith, room (c .before .before .before .before .before .before))
 
 mul-hear-3 : tie.Need-mul-hear-3
-mul-hear-3 c = omega (arith, room (c .before .before .before .before .before .before .before .before .before .before .before))
+mul-hear-3 c = omega (arith, room (c .before .before .before .before .before .before .before))
 
 sub-hear-3 : tie.Need-sub-hear-3
 sub-hear-3 c = search needs
@@ -93,7 +81,7 @@ part-hear-start-3 : tie.Need-part-hear-start-3
 part-hear-start-3 c = search needs
 
 part-hear-end-3 : tie.Need-part-hear-end-3
-part-hear-end-3 c = omega (arith, room (c .before .before .before .before .before .before .before .before .before .before .before))
+part-hear-end-3 c = omega (arith, room (c .before .before .before .before .before .before .before))
 
 hear-requires : tie.Need-hear-requires
 hear-requires c κs = search needs
@@ -144,10 +132,6 @@ receive-spec =
     mul-rows
     mul-from
     add-to
-    neighbours-requires
-    grid-requires
-    grid-requires-2
-    grid-requires-3
     mul-hear
     sub-hear
     part-hear-start

@@ -27,14 +27,14 @@ abbrev here : tie.Start → ℕ
 here s = let a = s .args in place (net s) (a .sender) (a .destination) (a .number)
 
 here-is : (s : tie.Start) → s .args .sender * (s .args .n * s .args .stacks) + (s .args .destination * s .args .stacks + (s .args .number - 1)) ≡ here s
-here-is s = let a = s .args in place-so (net s) (a .stacks) (a .sender) (a .destination) (a .number) (s .pre .stacks-are)
+here-is s = let a = s .args in place-so (net s) (a .stacks) (a .sender) (a .destination) (a .number) (s .pre .0 .stacks-are)
 
 -- the sums fit, and the row lies in the sender's part
 room : (c : tie.Else5) → Lends (c .before .before .before .before .before .before .before .before .before .before .args .n) (c .before .before .before .before .before .before .before .before .before .before .args .stacks) (c .before .before .before .before .before .before .before .before .before .before .args .sender) (length (now (c .before .before .before .before .before .before .before .before .before .before .args .cost))) (length (now (c .before .before .before .before .before .before .before .before .before .before .args .way))) (length (now (c .before .before .before .before .before .before .before .before .before .before .args .waiting)))
 room c =
     let s = c .before .before .before .before .before .before .before .before .before .before in
     let a = s .args in
-    lends (net s) (a .stacks) (length (now (a .cost))) (length (now (a .way))) (length (now (a .waiting))) (a .sender) (s .pre) (c .before .before .before .before .if1 .left)
+    lends (net s) (a .stacks) (length (now (a .cost))) (length (now (a .way))) (length (now (a .waiting))) (a .sender) (s .pre .0) (c .before .before .before .before .if1 .left)
 
 inner : (c : tie.Else5) → c .before .before .before .before .before .before .before .before .before .before .args .destination * c .before .before .before .before .before .before .before .before .before .before .args .stacks + (c .before .before .before .before .before .before .before .before .before .before .args .number - 1) < c .before .before .before .before .before .before .before .before .before .before .args .n * c .before .before .before .before .before .before .before .before .before .before .args .stacks
 inner c = let a = c .before .before .before .before .before .before .before .before .before .before .args in row-within (a .n) (a .stacks) (a .destination) (a .number) (c .before .before .if3 .left) (c .before .if4 .left) (c .if5 .left)
@@ -43,7 +43,7 @@ good : (c : tie.Else5) → okMessage (net (c .before .before .before .before .be
 good c =
     let s = c .before .before .before .before .before .before .before .before .before .before in
     let a = s .args in
-    good-message (net s) (tab s) (a .sender) (a .receiver) (a .destination) (a .number) (c .before .before .before .before .if1 .left) (c .before .before .before .if2 .left) (c .before .before .if3 .left) (c .before .if4 .left) (omega (arith, s .pre .stacks-are, c .if5 .left))
+    good-message (net s) (tab s) (a .sender) (a .receiver) (a .destination) (a .number) (c .before .before .before .before .if1 .left) (c .before .before .before .if2 .left) (c .before .before .if3 .left) (c .before .if4 .left) (omega (arith, s .pre .0 .stacks-are, c .if5 .left))
 
 -- the bit is set, and what the sender's cost and the link are
 waits : (c : tie.Else6) → has (getD (now (c .before .before .before .before .before .before .before .before .before .before .before .before .before .args .waiting)) (here (c .before .before .before .before .before .before .before .before .before .before .before .before .before)) 0) (c .before .before .before .before .before .before .before .before .before .before .before .before .before .args .receiver) ≡ true
@@ -88,7 +88,7 @@ returns-5 : tie.Need-returns-5
 returns-5 c =
     let s = c .before .before .before .before .before .before .before .before .before .before in
     let a = s .args in
-    high-number (net s) (tab s) (a .sender) (a .receiver) (a .destination) (a .number) (c .before .before .before .before .if1 .left) (c .before .before .before .if2 .left) (c .before .before .if3 .left) (c .before .if4 .left) (omega (arith, s .pre .stacks-are, c .if5 .taken))
+    high-number (net s) (tab s) (a .sender) (a .receiver) (a .destination) (a .number) (c .before .before .before .before .if1 .left) (c .before .before .before .if2 .left) (c .before .before .if3 .left) (c .before .if4 .left) (omega (arith, s .pre .0 .stacks-are, c .if5 .taken))
 
 mul-rows : tie.Need-mul-rows
 mul-rows c = omega (arith, room c, inner c)
@@ -175,15 +175,18 @@ slice-write-waiting c = omega (arith, room (c .before .before .before .before .b
 receive-requires : tie.Need-receive-requires
 receive-requires c κs =
     let s = c .before .before .before .before .before .before .before .before .before .before .before .before .before .before .before .before .before .before .before .before .before .before .before in (
-      record { network = s .pre .network; stacks-are = s .pre .stacks-are; cost-long = s .pre .cost-long; way-long = s .pre .way-long; waiting-long = simp length-set (s .pre .waiting-long) },
-      record {
-        sends = c .before .before .before .before .before .before .before .before .before .before .before .before .before .before .before .before .before .if1 .left;
-        hears = c .before .before .before .before .before .before .before .before .before .before .before .before .before .before .before .before .if2 .left;
-        known = c .before .before .before .before .before .before .before .before .before .before .before .before .before .before .before .if3 .left;
-        numbered = c .before .before .before .before .before .before .before .before .before .before .before .before .before .before .if4 .left;
-        within = omega (arith, s .pre .stacks-are, c .before .before .before .before .before .before .before .before .before .before .before .before .before .if5 .left);
-        priced = c .before .before .before .before .before .before .if7 .left;
-      },
+      record { network = s .pre .0 .network; stacks-are = s .pre .0 .stacks-are; cost-long = s .pre .0 .cost-long; way-long = s .pre .0 .way-long; waiting-long = simp length-set (s .pre .0 .waiting-long) },
+      (
+        s .pre .1 (c .before .before .before .before .before .before .before .before .before .before .before .before .before .before .before .before .if2 .left),
+        record {
+          sends = c .before .before .before .before .before .before .before .before .before .before .before .before .before .before .before .before .before .if1 .left;
+          hears = c .before .before .before .before .before .before .before .before .before .before .before .before .before .before .before .before .if2 .left;
+          known = c .before .before .before .before .before .before .before .before .before .before .before .before .before .before .before .if3 .left;
+          numbered = c .before .before .before .before .before .before .before .before .before .before .before .before .before .before .if4 .left;
+          within = omega (arith, s .pre .0 .stacks-are, c .before .before .before .before .before .before .before .before .before .before .before .before .before .if5 .left);
+          priced = c .before .before .before .before .before .before .if7 .left;
+        },
+      ),
     )
 
 same-length-3 : tie.Need-same-length-3
