@@ -75,14 +75,14 @@ fn take_turn(
     way: &mut [u16],
     waiting: &mut [u32],
     flags: &mut [u32],
-    neighbours: [u32; 32],
-    converts: [[[u16; 8]; 8]; 32],
-    wraps: [[[u16; 8]; 8]; 32],
-    unwraps: [[[u16; 8]; 8]; 32],
+    neighbours: &[u32; 32],
+    converts: &[[[u16; 8]; 8]; 32],
+    wraps: &[[[u16; 8]; 8]; 32],
+    unwraps: &[[[u16; 8]; 8]; 32],
 ) -> Turn
     requires { ⌜ Prepared (networkOf n p h (now links) (now functions)) stacks (length (now cost)) (length (now way)) (length (now waiting)) ⌝ }
     requires { ⌜ Flagged n stacks (now flags) (now waiting) ⌝ }
-    requires { ⌜ AllEquipped (networkOf n p h (now links) (now functions)) neighbours converts wraps unwraps ⌝ }
+    requires { ⌜ AllEquipped (networkOf n p h (now links) (now functions)) (now neighbours) (now converts) (now wraps) (now unwraps) ⌝ }
     ensures { λ r.
         ⌜
         Turned (networkOf n p h (now (links .entry)) (now (functions .entry))) stacks (tableOf (now (cost .entry)) (now (way .entry)) (now (waiting .entry)))
@@ -177,10 +177,10 @@ pub(crate) fn runs(
             way,
             waiting,
             &mut flags,
-            neighbours,
-            converts,
-            wraps,
-            unwraps,
+            &neighbours,
+            &converts,
+            &wraps,
+            &unwraps,
         ) {
             Turn::Offers(taken) => {
                 offers += taken as u64;

@@ -24,13 +24,6 @@ ready-requires c κs = search needs
 enum-known-stacks : tie.Need-enum-known-stacks
 enum-known-stacks c = search needs
 
-step-requires : tie.Need-step-requires
-step-requires c κs =
-    let s = c .before .before .before .before .before .before .before .before .before .before .before .before .before .before .before .before in (
-      prepared (net s) (tab s) (c .before .before .before .before .before .before .before .before .stacks .given .0 .0) (right (c .before .before .before .before .before .before .before .before)),
-      λ known. record { near-are = c .before .before .before .neighbours .ensures; converts = c .before .before .grid .ensures; wraps = c .before .grid2 .ensures; unwraps = c .grid3 .ensures },
-    )
-
 neighbours-requires : tie.Need-neighbours-requires
 neighbours-requires c κs = search needs
 
@@ -42,6 +35,13 @@ grid-requires-2 c κs = search needs
 
 grid-requires-3 : tie.Need-grid-requires-3
 grid-requires-3 c κs = search needs
+
+step-requires : tie.Need-step-requires
+step-requires c κs =
+    let s = c .before .before .before .before .before .before .before .before .before .before .before .before .before .before .before .before in (
+      prepared (net s) (tab s) (c .before .before .before .before .before .before .before .before .stacks .given .0 .0) (right (c .before .before .before .before .before .before .before .before)),
+      λ known. record { near-are = c .before .before .before .neighbours .ensures; converts = c .before .before .grid .ensures; wraps = c .before .grid2 .ensures; unwraps = c .grid3 .ensures },
+    )
 
 enum-known-refusal : tie.Need-enum-known-refusal
 enum-known-refusal c = search needs
