@@ -40,19 +40,6 @@ pub struct Case {
     pub thorough: bool,
 }
 
-macro_rules! call {
-    ($case:ident, $name:ident $(, $more:expr)*) => {
-        unsafe {
-            $name(
-                $case.n, $case.p, $case.h,
-                $case.links.pointer(), $case.links.len(), $case.functions.pointer(), $case.functions.len(),
-                $case.cost.pointer(), $case.cost.len(), $case.way.pointer(), $case.way.len(), $case.waiting.pointer(), $case.waiting.len()
-                $(, $more)*
-            )
-        }
-    };
-}
-
 fn intact<T: Word>(name: &str, slice: &str, lent: &Lent<T>) -> Result<(), String> {
     if lent.guards_hold() {
         Ok(())
@@ -115,29 +102,29 @@ impl Case {
     }
 
     pub fn fresh(&mut self) -> Result<u64, String> {
-        let answer = call!(self, bannogwy_fresh);
+        let answer = unsafe { call!(self, bannogwy_fresh) };
         self.checked("fresh", answer, !is_refused(answer))
     }
 
     pub fn count(&mut self) -> Result<u64, String> {
-        let answer = call!(self, bannogwy_count);
+        let answer = unsafe { call!(self, bannogwy_count) };
         self.checked("count", answer, false)
     }
 
     pub fn first_waiting(&mut self) -> Result<u64, String> {
-        let answer = call!(self, bannogwy_first_waiting);
+        let answer = unsafe { call!(self, bannogwy_first_waiting) };
         self.checked("first_waiting", answer, false)
     }
 
     pub fn deliver(&mut self, sender: usize, receiver: usize, destination: usize, number: usize) -> Result<u64, String> {
-        let answer = call!(self, bannogwy_deliver, sender, receiver, destination, number);
+        let answer = unsafe { call!(self, bannogwy_deliver, sender, receiver, destination, number) };
         self.checked("deliver", answer, !is_refused(answer))
     }
 
     // the answer and the answer slice, of this length
     pub fn run(&mut self, limit: u32, len: usize) -> Result<(u64, Vec<u64>), String> {
         let mut slice: Lent<u64> = Lent::junk(len);
-        let answer = call!(self, bannogwy_run, limit, slice.pointer(), slice.len());
+        let answer = unsafe { call!(self, bannogwy_run, limit, slice.pointer(), slice.len()) };
         intact("run", "answer", &slice)?;
         // a delivery that refuses keeps what was done before
         let kept = is_refused(answer) && answer != refused(4) && answer != refused(7);
@@ -146,7 +133,7 @@ impl Case {
 
     pub fn lookup(&mut self, u: usize, d: usize, stack: &[u8]) -> Result<u64, String> {
         let mut lent = Lent::new(stack);
-        let answer = call!(self, bannogwy_lookup, u, d, lent.pointer(), lent.len());
+        let answer = unsafe { call!(self, bannogwy_lookup, u, d, lent.pointer(), lent.len()) };
         unchanged("lookup", "stack", &lent)?;
         self.checked("lookup", answer, false)
     }
@@ -154,7 +141,7 @@ impl Case {
     pub fn carry(&mut self, u: usize, d: usize, stack: &[u8], limit: usize, len: usize) -> Result<(u64, Vec<u64>), String> {
         let mut lent = Lent::new(stack);
         let mut slice: Lent<u64> = Lent::junk(len);
-        let answer = call!(self, bannogwy_carry, u, d, lent.pointer(), lent.len(), limit, slice.pointer(), slice.len());
+        let answer = unsafe { call!(self, bannogwy_carry, u, d, lent.pointer(), lent.len(), limit, slice.pointer(), slice.len()) };
         intact("carry", "answer", &slice)?;
         unchanged("carry", "stack", &lent)?;
         Ok((self.checked("carry", answer, false)?, slice.part().to_vec()))

@@ -1,7 +1,6 @@
 // Tables that no run from fresh makes: random words everywhere, or a right table with something wrong in it.
 use crate::pair::Pair;
 use crate::report::{Outcome, Report};
-use crate::rng::Rng;
 use crate::scale::Scale;
 use crate::shapes;
 use crate::stacks::{self, Change};
@@ -96,12 +95,12 @@ fn spoil(b: &mut Pair, kind: usize, at: usize) {
         }
         // costs that a table may have, messages to nodes only
         1 => {
-            b.case.cost.set(at, any_cost(rng));
+            b.case.cost.set(at, rng.cost(CEILING));
             b.case.way.set(at, (some >> 32) as u16);
             let near: u32 = b.net.links[u].iter().map(|l| 1 << l.to).sum();
             b.case.waiting.set(at, rng.word() as u32 & near);
         }
-        2 => b.case.cost.set(at, any_cost(rng)),
+        2 => b.case.cost.set(at, rng.cost(CEILING)),
         // ways to a neighbour by a function that fits the stack, but which the node may not have
         3 => {
             let function = match (rng.below(4), &b.net.stacks.list[at % s][..]) {
@@ -129,23 +128,9 @@ fn spoil(b: &mut Pair, kind: usize, at: usize) {
             let stack = &b.net.stacks.list[at % s];
             let fits = b.net.functions[u].iter().find(|f| stacks::apply(f.change, f.a, f.b, stack, b.net.h).is_some());
             if let (Some(f), Some(l)) = (fits, b.net.links[u].get(rng.below(n))) {
-                b.case.cost.set(at, if rng.chance(8) { any_cost(rng) } else { rng.between(1, 9) as u32 });
+                b.case.cost.set(at, if rng.chance(8) { rng.cost(CEILING) } else { rng.between(1, 9) as u32 });
                 b.case.way.set(at, (256 * l.to + stacks::function_number(f.change, f.a, f.b)) as u16);
             }
         }
-    }
-}
-
-fn any_cost(rng: &mut Rng) -> u32 {
-    let some = rng.word() as u32;
-    match rng.below(8) {
-        0 => 0,
-        1 => CEILING,
-        2 => CEILING + 1,
-        3 => CEILING - some % 200_000,
-        4 => u32::MAX,
-        5 => u32::MAX - some % 3,
-        6 => some % 1_000,
-        _ => some,
     }
 }

@@ -29,6 +29,21 @@ impl Rng {
         self.below(100) < percent
     }
 
+    // a row's cost as a broken table may hold it, often at the ceiling or at "no row"
+    pub fn cost(&mut self, ceiling: u32) -> u32 {
+        let some = self.word() as u32;
+        match self.below(8) {
+            0 => 0,
+            1 => ceiling,
+            2 => ceiling + 1,
+            3 => ceiling - some % 200_000,
+            4 => u32::MAX,
+            5 => u32::MAX - some % 3,
+            6 => some % 1_000,
+            _ => some,
+        }
+    }
+
     pub fn pick<T: Copy>(&mut self, from: &[T]) -> T {
         from[self.below(from.len())]
     }

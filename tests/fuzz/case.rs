@@ -27,17 +27,6 @@ pub struct Case {
     pub packet: Lent<u8>,
 }
 
-macro_rules! call {
-    ($common:ident, $name:ident $(, $more:expr)*) => {
-        $name(
-            $common.n, $common.p, $common.h,
-            $common.links.pointer(), $common.links.len(), $common.functions.pointer(), $common.functions.len(),
-            $common.cost.pointer(), $common.cost.len(), $common.way.pointer(), $common.way.len(), $common.waiting.pointer(), $common.waiting.len()
-            $(, $more)*
-        )
-    };
-}
-
 impl Case {
     pub fn new(vast: Vast) -> Case {
         let (links, functions) = (Lent::new("links", vast), Lent::new("functions", vast));

@@ -38,13 +38,13 @@ pub const KINDS: usize = 14;
 pub fn spoil(rng: &mut Rng, net: &Network, table: &mut Table, row: usize, kind: usize) {
     let (u, _, number) = net.place(row);
     match kind {
-        0 => table.cost[row] = cost(rng),
+        0 => table.cost[row] = rng.cost(CEILING),
         1 => table.way[row] = rng.word() as u16,
         2 => table.waiting[row] = rng.word() as u32,
         3 => table.waiting[row] |= 1 << rng.below(32),
         4..=6 => table.waiting[row] |= net.neighbours(u),
         7 => {
-            table.cost[row] = cost(rng);
+            table.cost[row] = rng.cost(CEILING);
             table.waiting[row] = rng.word() as u32 & net.neighbours(u);
         }
         8 => {
@@ -53,23 +53,9 @@ pub fn spoil(rng: &mut Rng, net: &Network, table: &mut Table, row: usize, kind: 
         }
         9 => table.way[row] ^= 1 << rng.below(16),
         _ => {
-            table.cost[row] = if rng.chance(80) { rng.between(1, 9) as u32 } else { cost(rng) };
+            table.cost[row] = if rng.chance(80) { rng.between(1, 9) as u32 } else { rng.cost(CEILING) };
             table.way[row] = way(rng, net, u, number);
         }
-    }
-}
-
-fn cost(rng: &mut Rng) -> u32 {
-    let some = rng.word() as u32;
-    match rng.below(8) {
-        0 => 0,
-        1 => CEILING,
-        2 => CEILING + 1,
-        3 => CEILING - some % 140_000,
-        4 => NO_ROW,
-        5 => NO_ROW - 1,
-        6 => some % 1_000,
-        _ => some,
     }
 }
 
