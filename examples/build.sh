@@ -12,5 +12,5 @@ build_example() {
     sources=("${sources[@]/%/.c}")
     # shellcheck disable=SC2154 # c_compiler: tests/machine.sh
     "${c_compiler[@]}" -std=c99 -Wall -Wextra -pedantic -O2 -Iinclude -o "$program" "examples/$name.c" "${sources[@]/#/examples/}" "$@" \
-        target/staticlib/libexports.a
+        target/staticlib/libbannogwy.a
 }

@@ -126,8 +126,7 @@ uint64_t bannogwy_carry(BANNOGWY_NETWORK, BANNOGWY_TABLE_READ, size_t node, size
 uint64_t bannogwy_read_stack(size_t h, const uint8_t *packet, size_t packet_len, uint8_t *out, size_t out_len, uint64_t *answer, size_t answer_len);
 
 /* The caller's tally of deliver and run: each counter stops at 4,294,967,295. After a delivery add 1 and its rows, or 1 refused call; after a
- * run its deliveries and their offers, and 1 refused call where it answers a refusal; after refusal 9 add nothing. `tally` points to one record.
- * (In the archive libtally.a.) */
+ * run its deliveries and their offers, and 1 refused call where it answers a refusal; after refusal 9 add nothing. `tally` points to one record. */
 struct bannogwy_tally {
     uint32_t deliveries;
     uint32_t offers;

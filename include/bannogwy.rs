@@ -1,7 +1,7 @@
 // The library's calls for Rust, as bannogwy.h declares and explains them. Take it into a program by
 //     #[path = ".../include/bannogwy.rs"]
 //     mod bannogwy;
-// and link the archives: rustc -L native=target/staticlib -l static=exports (and -l static=tally for the tally).
+// and link the library: rustc -L native=target/staticlib -l static=bannogwy
 #![allow(dead_code)]
 
 #[repr(C)]

@@ -1,11 +1,11 @@
 # Bad input in the tests and by hand. Sourced by tests/run, which prepares the machine and has `check`, `give_up` and `run_program`.
 # shellcheck shell=bash disable=SC2154,SC2317
 
-# build_fuzz PROGRAM ARCHIVES OPTION..: the fuzzing program, with the archives of a folder
+# build_fuzz PROGRAM FOLDER OPTION..: the fuzzing program, with the archive of a folder
 build_fuzz() {
-    local program=$1 archives=$2
+    local program=$1 folder=$2
     shift 2
-    "${rust_compiler[@]}" --edition 2021 "$@" -L "native=$archives" -l static=exports -l static=tally -o "$program" tests/fuzz/main.rs
+    "${rust_compiler[@]}" --edition 2021 "$@" -L "native=$folder" -l static=bannogwy -o "$program" tests/fuzz/main.rs
 }
 
 # build_checked_fuzz PROGRAM OPTION..: the same with the compiler's address checks in the library

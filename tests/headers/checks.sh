@@ -77,7 +77,7 @@ read_packets() {
     printf '== packets read, beside an independent reader, tshark and scapy\n'
     prepare_packets
     check 'the program that reads packets compiles without a warning' quietly "${c_compiler[@]}" -std=c99 -Wall -Wextra -pedantic -O2 -Iinclude \
-        -o "$out/headers" tests/headers/answers.c "$library/libexports.a"
+        -o "$out/headers" tests/headers/answers.c "$library/libbannogwy.a"
     check 'packets are made by scapy' "${python[@]}" tests/headers/make.py "$packets" "$seed"
     check 'packets are answered, and nothing beside the slices is touched' packets_answered
     check 'tshark takes the packets apart' "${python[@]}" tests/headers/tshark_reading.py "$packets"

@@ -11,8 +11,8 @@ use borrow.Author.Tests.{ltb-true, lt-ltb}
 use Rattle.lists.proofs.Tests.{both}
 use Rattle.lists.proofs.Tables.{length-tabulate, getD-tabulate}
 use Rattle.relax.specs.Graph.{Fresh}
-use Rattle.words.specs.Words.{has}
-use Rattle.words.proofs.Laws.{has-zero}
+use Rattle.bits.specs.Bits.{has}
+use Rattle.bits.proofs.Laws.{has-zero}
 use Rattle.network.specs.Network.{Network, neighbours}
 use Rattle.network.proofs.Laws.{has-neighbours}
 use Rattle.table.specs.Table.{noRow, noWay, rowsEach, rowsAll, place, nodeAt, home, homeAt, fresh, Sized, nodeOf, numberOf}

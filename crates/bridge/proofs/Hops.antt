@@ -4,11 +4,12 @@ use mathlib.Core.Path.{_≡_, refl, sym, _∙_}
 use mathlib.Core.Bool.{true}
 use borrow.Author.Tests.{ltb-true, lt-ltb}
 use Rattle.stacks.specs.Stacks.{okSize}
-use Rattle.stacks.specs.Answers.{appliedOf}
-use Rattle.stacks.specs.declared.After.{After}
-use Rattle.stacks.proofs.Laws.{moved-applied, leads}
-use Rattle.stacks.proofs.Tests.{function}
-use Rattle.network.specs.Network.{Network, can, word}
+use Rattle.functions.specs.Answers.{appliedOf}
+use Rattle.functions.specs.declared.After.{After}
+use Rattle.functions.proofs.Laws.{moved-applied, leads}
+use Rattle.functions.proofs.Tests.{function}
+use Rattle.network.specs.Network.{Network}
+use Rattle.gateways.specs.Gateways.{can, word}
 use Rattle.hear.specs.Hearing.{Message, leadsBy, leader}
 use Rattle.hear.proofs.Laws.{leader-leads, leader-is}
 use Rattle.table.specs.Table.{gateway}

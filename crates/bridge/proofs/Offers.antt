@@ -8,18 +8,19 @@ use lib.Dec.{ltb, eqb}
 use borrow.Author.Tests.{ltb-true, lt-ltb, eq-eqb}
 use Rattle.lists.proofs.Tests.{both}
 use Rattle.relax.specs.Graph.{wins, Takes}
-use Rattle.stacks.specs.Answers.{appliedOf, numberAfter}
-use Rattle.stacks.specs.declared.After.{After}
-use Rattle.network.specs.Network.{Network, price, weight, refusalOf}
-use Rattle.network.proofs.Laws.{weight-some}
+use Rattle.functions.specs.Answers.{appliedOf, numberAfter}
+use Rattle.functions.specs.declared.After.{After}
+use Rattle.network.specs.Network.{Network, refusalOf}
+use Rattle.gateways.specs.Gateways.{price, weight}
+use Rattle.gateways.proofs.Laws.{weight-some}
 use Rattle.hear.specs.Hearing.{leader, offer}
 use Rattle.table.specs.Table.{Table, rowsEach, place, gateway, vertex, nodeOf, numberOf}
-use Rattle.bridge.specs.Bridge.{about, functionOf, weightOf, graphOf, rowOf, costOf, leadsTo, stateOf}
 use Rattle.table.proofs.Rows.{vertex-node, vertex-number, vertex-below}
+use Rattle.table.proofs.Deliveries.{Goes, told, leaderOf, offerTo, took}
+use Rattle.bridge.specs.Bridge.{about, functionOf, weightOf, graphOf, rowOf, costOf, leadsTo, stateOf}
 use Rattle.bridge.proofs.Hops.{leader-about}
 use Rattle.bridge.proofs.Weights.{Hops, weight-hop, hop-weight, hop-by}
 use Rattle.bridge.proofs.States.{cost-inside}
-use Rattle.deliver.proofs.Deliveries.{Goes, told, leaderOf, offerTo, took}
 
 module _ (net : Network) (t : Table) (Q U D N : ℕ) (go : Goes net t Q U D N) where
   -- the vertex that the message is about

@@ -4,7 +4,7 @@ use mathlib.Core.Path.{_≡_}
 use mathlib.Core.Bool.{false}
 use lib.ListN.{getD}
 use borrow.Author.Tests.{lt-ltb, le-ltb}
-use Rattle.words.specs.Words.{has}
+use Rattle.bits.specs.Bits.{has}
 use Rattle.network.specs.Network.{Network}
 use Rattle.table.specs.Table.{Table, noRow, rowsEach, numberOf}
 use Rattle.bridge.specs.Bridge.{rowOf, costOf, waitingOf, leadsTo, nextOf}

@@ -11,8 +11,8 @@ use Rattle.lists.proofs.Tests.{bool-cases}
 use Rattle.relax.specs.Graph as graph
 use Rattle.relax.specs.Graph.{Takes, Deliver, Same}
 use Rattle.relax.proofs.Laws.{cleared-only, cleared-here}
-use Rattle.words.specs.Words.{has, without}
-use Rattle.words.proofs.Laws.{has-without-here, has-without-there, has-withAll}
+use Rattle.bits.specs.Bits.{has, without}
+use Rattle.bits.proofs.Laws.{has-without-here, has-without-there, has-withAll}
 use Rattle.network.specs.Network.{Network, link, present, neighbours, refusalOf}
 use Rattle.network.proofs.Laws.{valid, has-neighbours}
 use Rattle.table.specs.Table.{Table, rowsEach, place, cleared, delivered, Sized, vertex, nodeOf, numberOf}
@@ -21,7 +21,7 @@ use Rattle.bridge.specs.Bridge.{weightOf, graphOf, rowOf, costOf, waitin
 use Rattle.table.proofs.Rows.{is-vertex, of-vertex, same-row}
 use Rattle.bridge.proofs.Weights.{weight-hop}
 use Rattle.bridge.proofs.States.{cost-inside, cost-outside, next-inside, next-outside, waiting-inside, waiting-outside}
-use Rattle.deliver.proofs.Deliveries.{Goes, goes, took, Changes, changes, Stays, stays, cleared-row, kept-row}
+use Rattle.table.proofs.Deliveries.{Goes, goes, took, Changes, changes, Stays, stays, cleared-row, kept-row}
 use Rattle.bridge.proofs.Offers.{heard-below, heard-row, row-mine, offer-is, takes-took, took-takes, way-leads}
 
 -- no gateway hears a message of its own

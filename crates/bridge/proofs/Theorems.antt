@@ -5,7 +5,7 @@ use Rattle.network.specs.Network.{Network, Numbers16, refusalOf}
 use Rattle.bridge.specs.Bridge.{Bridged}
 use Rattle.bridge.proofs.Weights.{lawful, neighbours-few, hop-function, function-hop}
 use Rattle.bridge.proofs.Beginning.{fresh-sized, fresh-is-fresh}
-use Rattle.deliver.proofs.Deliveries.{goes, delivered-sized}
+use Rattle.table.proofs.Deliveries.{goes, delivered-sized}
 use Rattle.bridge.proofs.Steps.{delivery-is-a-step, delivery-elsewhere}
 
 pub bridged : (net : Network) → refusalOf net ≡ 0 → Numbers16 net → (D : ℕ) → D < net .n → Bridged net D

@@ -7,15 +7,17 @@ use lib.Dec.{ltb}
 use borrow.Author.Tests.{ltb-true, lt-ltb}
 use Rattle.lists.proofs.Tests.{bool-cases, both}
 use Rattle.relax.specs.Graph.{Lawful}
-use Rattle.stacks.specs.Answers.{appliedOf}
-use Rattle.stacks.specs.declared.After.{After}
-use Rattle.stacks.proofs.Laws.{leads}
 use Rattle.stacks.proofs.Tests.{within}
-use Rattle.network.specs.Network.{Network, Numbers16, present, can, price, weight, refusalOf}
-use Rattle.network.proofs.Laws.{valid, present-nodes, weight-most}
+use Rattle.functions.specs.Answers.{appliedOf}
+use Rattle.functions.specs.declared.After.{After}
+use Rattle.functions.proofs.Laws.{leads}
+use Rattle.network.specs.Network.{Network, Numbers16, present, refusalOf}
+use Rattle.network.proofs.Laws.{valid, present-nodes}
+use Rattle.gateways.specs.Gateways.{can, price, weight}
+use Rattle.gateways.proofs.Laws.{weight-most}
 use Rattle.table.specs.Table.{rowsEach, home, vertex, nodeOf, numberOf}
-use Rattle.bridge.specs.Bridge.{functionOf, hops, weightOf, homeOf, graphOf, HopBy}
 use Rattle.table.proofs.Rows.{vertex-node, vertex-number, vertex-below}
+use Rattle.bridge.specs.Bridge.{functionOf, hops, weightOf, homeOf, graphOf, HopBy}
 use Rattle.bridge.proofs.Hops.{By, leader-by, by-small, by-leader}
 
 module _ (net : Network) where

@@ -1,16 +1,17 @@
 -- The table is the theory: for each destination, a network is a graph of crate relax and a table is a state over that graph.
-use Prim.Native.Nat.{ℕ, _+_, _-_, _*_, _/_, _%_, _<_}
+use Prim.Native.Nat.{ℕ, _-_, _/_, _%_, _<_}
 use mathlib.Core.Path.{_≡_}
 use mathlib.Core.Bool.{Bool, true, cond, _&&_}
-use lib.ListN.{length, getD}
+use lib.ListN.{getD}
 use lib.Dec.{ltb}
 use Rattle.relax.specs.Graph.{Graph, State, Lawful, Same, Fresh, Deliver}
-use Rattle.stacks.specs.Answers.{appliedOf, numberAfter}
-use Rattle.stacks.specs.declared.After.{After}
-use Rattle.words.specs.Words.{has}
-use Rattle.network.specs.Network.{Network, stacks, present, can, weight}
+use Rattle.functions.specs.Answers.{appliedOf, numberAfter}
+use Rattle.functions.specs.declared.After.{After}
+use Rattle.bits.specs.Bits.{has}
+use Rattle.network.specs.Network.{Network, present}
+use Rattle.gateways.specs.Gateways.{can, weight}
 use Rattle.hear.specs.Hearing.{Message, leader}
-use Rattle.table.specs.Table.{Table, Sized, vertex, nodeOf, numberOf, noRow, rowsEach, rowsAll, place, home, fresh, gateway, delivered}
+use Rattle.table.specs.Table.{Table, Sized, vertex, nodeOf, numberOf, noRow, rowsEach, place, home, fresh, gateway, delivered}
 use Rattle.table.specs.Answers.{stepRefusal}
 
 -- a message about a stack number, of which only that number matters

@@ -1,12 +1,3 @@
--- The laws of crate deliver, and what they rest on.
-pub mod Flags
-pub mod Blocks
-pub mod StepTests
-pub mod Receiving
-pub mod Deliveries
+-- The laws of crate deliver.
+pub mod Beginning
 pub mod Offers
-pub mod Parts
-pub mod Running
-pub mod Keeping
-pub mod Marks
-pub mod Turning

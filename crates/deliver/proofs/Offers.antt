@@ -10,17 +10,19 @@ use borrow.Author.Tests.{ltb-true, lt-ltb, eq-eqb, ne-eqb}
 use Rattle.lists.proofs.Tests.{bool-cases, both}
 use Rattle.relax.specs.Graph.{wins}
 use Rattle.relax.proofs.Laws.{wins-below, loses-above}
-use Rattle.stacks.specs.Answers.{movedOf}
-use Rattle.stacks.specs.declared.After.{After}
-use Rattle.words.specs.Words.{without, withAll}
-use Rattle.network.specs.Network.{Network, stacks, link, present, neighbours, word, can, price, weight, refusalOf}
-use Rattle.network.proofs.Laws.{valid, weight-most}
+use Rattle.functions.specs.Answers.{movedOf}
+use Rattle.functions.specs.declared.After.{After}
+use Rattle.bits.specs.Bits.{without, withAll}
+use Rattle.network.specs.Network.{Network, stacks, link, present, neighbours, refusalOf}
+use Rattle.network.proofs.Laws.{valid}
+use Rattle.gateways.specs.Gateways.{word, can, price, weight}
+use Rattle.gateways.proofs.Laws.{weight-most}
 use Rattle.hear.specs.Hearing.{offer}
 use Rattle.hear.proofs.Laws.{leader-leads, leader-is}
 use Rattle.table.specs.Table.{Table, Sized, noRow, place, gateway, message, cleared, delivered}
 use Rattle.table.specs.Answers.{stepRefusal}
 use Rattle.table.proofs.Rows.{Stack, same-row}
-use Rattle.deliver.proofs.Deliveries.{Goes, goes, leaderOf, offerTo, took, changes, stays, cleared-row, kept-row}
+use Rattle.table.proofs.Deliveries.{Goes, goes, leaderOf, offerTo, took, changes, stays, cleared-row, kept-row}
 
 -- f is a function of U, and makes the stack with number N of the one with number M
 pub record Leads (net : Network) (U N M f : ℕ) : Type 0 where

@@ -4,15 +4,21 @@ use native.Mathlib.Nat.{mul-le-mul}
 use native.Mathlib.Omega.{arith}
 use mathlib.Core.Path.{_≡_, refl, sym, ap, ap₂, _∙_}
 use mathlib.Core.Bool.{Bool, true, false, cond, _&&_}
+use mathlib.Core.Logic.{⊎-elim}
+use mathlib.Core.List.{[], _∷_}
+use types.Run.{OneOf}
+use denote.Enum.Declared.{tagOf}
 use lib.ListN.{getD}
 use lib.Dec.{leb, ltb, eqb}
 use borrow.Author.Tests.{lt-ltb, le-leb, lt-leb, eq-eqb, ne-eqb}
-use Rattle.stacks.specs.Answers.{appliedOf, numberAfter, movedOf}
-use Rattle.stacks.specs.declared.After.{After}
 use Rattle.stacks.proofs.Tests.{within}
-use Rattle.stacks.proofs.Laws.{moved-applied, leads}
-use Rattle.network.specs.Network.{Network, stacks, link, present, word, can, accepts, refusalOf}
+use Rattle.functions.specs.Answers.{appliedOf, numberAfter, movedOf}
+use Rattle.functions.specs.declared.After.{After}
+use Rattle.functions.proofs.After.{the-type}
+use Rattle.functions.proofs.Laws.{moved-applied, leads}
+use Rattle.network.specs.Network.{Network, stacks, link, present, refusalOf}
 use Rattle.network.proofs.Laws.{valid}
+use Rattle.gateways.specs.Gateways.{word, can, accepts}
 use Rattle.table.specs.Table.{Table, noRow, ceiling, rowsAll, place, home}
 use Rattle.table.proofs.Rows.{place-below}
 use Rattle.forward.specs.Forward.{lookAt, okRow, costOf}
@@ -43,15 +49,22 @@ room net s costs ways U D N q =
       in-way = omega (arith, q .way-long);
     }
 
--- what the tests of `is_home` say
-pub home-is : (net : Network) (U D N : ℕ) → homeAs (net .n) (net .p) (net .functions) U D N ≡ home net U D N
+-- what the answer of `is_home` says
+pub home-is : (net : Network) (U D N : ℕ) {here b : Bool} → here ≡ homeAs (net .n) (net .p) (net .functions) U D N → here ≡ b → home net U D N ≡ b
 unfolding home accepts
-home-is net U D N = refl
+home-is net U D N is e = sym is ∙ e
 
--- `moved` with the number of stacks at hand is `applied`
-pub applied-is : (net : Network) (s f N : ℕ) (a : After) → refusalOf net ≡ 0 → s ≡ stacks net → a ≡ movedOf (net .p) s f N → appliedOf (net .p) (net .h) f N ≡ a
-applied-is net s f N a right e d =
-    sym (d ∙ ap (λ (k : ℕ). movedOf (net .p) k f N) e ∙ moved-applied (net .p) (net .h) (valid net right .size) f N)
+-- an answer that is no number
+no-number : (a : After) → OneOf (1 ∷ 2 ∷ []) (tagOf the-type a) → numberAfter a ≡ 0
+no-number (After.Number m) told = absurd (⊎-elim (λ (z : 0 ≡ 1). omega arith) (λ (z : 0 ≡ 2). omega arith) told)
+no-number After.NotApplicable told = refl
+no-number (After.Refused r) told = refl
+
+-- a cost that passes its tests
+pub record Costed (c : ℕ) : Type 0 where
+  pub row : c ≡ noRow → ⊥
+  pub some : c ≡ 0 → ⊥
+  pub low : c ≤ ceiling
 
 module _ (net : Network) (U N c w : ℕ) where
   abbrev pub result : ℕ
@@ -74,31 +87,36 @@ module _ (net : Network) (U N c w : ℕ) where
   unfolding rowOk
   too-cheap row e = broken row (simp (lt-leb 1 c (omega arith)))
 
-  module _ (row : c ≡ noRow → ⊥) (some : c ≡ 0 → ⊥) where
-    pub too-dear : ceiling < c → Look.Refused 7 ≡ answerAt
-    unfolding rowOk
-    too-dear high = broken row (simp (le-leb 1 c (omega arith), lt-leb c ceiling high))
+  pub too-dear : (c ≡ noRow → ⊥) → (c ≡ 0 → ⊥) → ceiling < c → Look.Refused 7 ≡ answerAt
+  unfolding rowOk
+  too-dear row some high = broken row (simp (le-leb 1 c (omega arith), lt-leb c ceiling high))
 
-    module _ (low : c ≤ ceiling) where
-      pub no-link : link net U (w / 256) ≡ 0 → Look.Refused 7 ≡ answerAt
-      unfolding rowOk present
-      no-link e = broken row (simp (le-leb 1 c (omega arith), le-leb c ceiling low, e))
+  module _ (q : Costed c) {x : ℕ} (is-x : x ≡ link net U (w / 256)) where
+    pub no-link : x ≡ 0 → Look.Refused 7 ≡ answerAt
+    unfolding rowOk present
+    no-link e = broken (q .row) (simp (le-leb 1 c (omega arith), le-leb c ceiling (q .low), sym is-x ∙ e))
 
-      module _ (linked : link net U (w / 256) ≡ 0 → ⊥) where
-        pub no-function : word net U (w % 256) ≡ 0 → Look.Refused 7 ≡ answerAt
+    module _ (linked : x ≡ 0 → ⊥) {y : ℕ} (is-y : y ≡ word net U (w % 256)) where
+      pub no-function : y ≡ 0 → Look.Refused 7 ≡ answerAt
+      unfolding rowOk present can
+      no-function e = broken (q .row) (simp (le-leb 1 c (omega arith), le-leb c ceiling (q .low), lt-ltb 0 (link net U (w / 256)) (omega arith), sym is-y ∙ e))
+
+      module _ (able : y ≡ 0 → ⊥) (right : refusalOf net ≡ 0) {s : ℕ} (stacks-are : s ≡ stacks net) {a : After} (is : a ≡ movedOf (net .p) s (w % 256) N) where
+        -- `moved` with the number of stacks at hand is `applied`
+        applied-is : appliedOf (net .p) (net .h) (w % 256) N ≡ a
+        applied-is = sym (is ∙ ap (λ (k : ℕ). movedOf (net .p) k (w % 256) N) stacks-are ∙ moved-applied (net .p) (net .h) (valid net right .size) (w % 256) N)
+
+        pub no-result : OneOf (1 ∷ 2 ∷ []) (tagOf the-type a) → Look.Refused 7 ≡ answerAt
         unfolding rowOk present can
-        no-function e = broken row (simp (le-leb 1 c (omega arith), le-leb c ceiling low, lt-ltb 0 (link net U (w / 256)) (omega arith), e))
+        no-result told =
+            broken (q .row) (simp (le-leb 1 c (omega arith), le-leb c ceiling (q .low), lt-ltb 0 (link net U (w / 256)) (omega arith), lt-ltb 0 (word net U (w % 256)) (omega arith), applied-is, no-number a told))
 
-        module _ (able : word net U (w % 256) ≡ 0 → ⊥) where
-          pub no-result : numberAfter (appliedOf (net .p) (net .h) (w % 256) N) ≡ 0 → Look.Refused 7 ≡ answerAt
-          unfolding rowOk present can
-          no-result e = broken row (simp (le-leb 1 c (omega arith), le-leb c ceiling low, lt-ltb 0 (link net U (w / 256)) (omega arith), lt-ltb 0 (word net U (w % 256)) (omega arith), e))
-
-          pub forwards : (m : ℕ) → appliedOf (net .p) (net .h) (w % 256) N ≡ After.Number m → Look.Forward (w / 256) (w % 256) m c ≡ answerAt
-          unfolding rowOk present can
-          forwards m e =
-              let some-m : 1 ≤ m = within (net .p) (net .h) m (leads (net .p) (net .h) (w % 256) N m e .to) .some in
-              simp (ne-eqb c noRow row, le-leb 1 c (omega arith), le-leb c ceiling low, lt-ltb 0 (link net U (w / 256)) (omega arith), lt-ltb 0 (word net U (w % 256)) (omega arith), e, lt-ltb 0 m some-m)
+        pub forwards : (m : ℕ) → a ≡ After.Number m → Look.Forward (w / 256) (w % 256) m c ≡ answerAt
+        unfolding rowOk present can
+        forwards m e =
+            let to : appliedOf (net .p) (net .h) (w % 256) N ≡ After.Number m = applied-is ∙ e in
+            let some-m : 1 ≤ m = within (net .p) (net .h) m (leads (net .p) (net .h) (w % 256) N m to .to) .some in
+            simp (ne-eqb c noRow (q .row), le-leb 1 c (omega arith), le-leb c ceiling (q .low), lt-ltb 0 (link net U (w / 256)) (omega arith), lt-ltb 0 (word net U (w % 256)) (omega arith), to, lt-ltb 0 m some-m)
 
 -- ---- lookAt
 module _ (net : Network) (t : Table) (U D N : ℕ) where
@@ -108,10 +126,10 @@ module _ (net : Network) (t : Table) (U D N : ℕ) where
 
   -- the row is read with the number of stacks at hand
   pub row-read : (s c w : ℕ) → home net U D N ≡ false → s ≡ stacks net → c ≡ getD (t .cost) ((U * net .n + D) * s + (N - 1)) 0
-      → w ≡ getD (t .way) ((U * net .n + D) * s + (N - 1)) 0 → answerAt net U N c w ≡ lookAt net t U D N
+      → w ≡ getD (t .way) ((U * net .n + D) * s + (N - 1)) 0 → {l : Look} → l ≡ answerAt net U N c w → l ≡ lookAt net t U D N
   unfolding lookAt okRow rowOk
-  row-read s c w away e costs ways =
+  row-read s c w away e costs ways {l} is =
       let p : (U * net .n + D) * s + (N - 1) ≡ place net U D N = ap (λ (k : ℕ). (U * net .n + D) * k + (N - 1)) e in
       let x : c ≡ costOf net t U D N = costs ∙ ap (λ (i : ℕ). getD (t .cost) i 0) p in
       let y : w ≡ getD (t .way) (place net U D N) 0 = ways ∙ ap (λ (i : ℕ). getD (t .way) i 0) p in
-      simp away (ap₂ (λ (a b : ℕ). answerAt net U N a b) x y)
+      simp away (is ∙ ap₂ (λ (a b : ℕ). answerAt net U N a b) x y)

@@ -36,17 +36,20 @@ refused-so false x r e = (refl, (cc))
 
 -- ---- at each test of `begin`
 module _ (net : Network) (t : Table) (U D : ℕ) (stack : List ℕ) where
-  pub not-begun : (r : ℕ) → readyOf net (length (t .cost)) (length (t .way)) (length (t .waiting)) ≡ Checked.Refused r → Packet.Refused r ≡ packetOf net t U D stack
-  not-begun r e = sym (ap (λ (k : Checked). packetFrom k (okPacket net U D stack) (number (net .p) stack)) e)
+  pub not-begun : (r : ℕ) {k : Checked} → k ≡ readyOf net (length (t .cost)) (length (t .way)) (length (t .waiting)) → k ≡ Checked.Refused r → Packet.Refused r ≡ packetOf net t U D stack
+  not-begun r is e = sym (ap (λ (k : Checked). packetFrom k (okPacket net U D stack) (number (net .p) stack)) (sym is ∙ e))
 
-  module _ (s : ℕ) (e : readyOf net (length (t .cost)) (length (t .way)) (length (t .waiting)) ≡ Checked.Stacks s) where
+  module _ (s : ℕ) {k : Checked} (is : k ≡ readyOf net (length (t .cost)) (length (t .way)) (length (t .waiting))) (told : k ≡ Checked.Stacks s) where
+    ready-is : readyOf net (length (t .cost)) (length (t .way)) (length (t .waiting)) ≡ Checked.Stacks s
+    ready-is = sym is ∙ told
+
     answers : (ok : Bool) → okPacket net U D stack ≡ ok → cond ok (Packet.Number s (number (net .p) stack)) (Packet.Refused 4) ≡ packetOf net t U D stack
     answers ok d =
         ap (λ (b : Bool). cond b (Packet.Number s (number (net .p) stack)) (Packet.Refused 4)) (sym d)
-        ∙ sym (ap (λ (k : Checked). packetFrom k (okPacket net U D stack) (number (net .p) stack)) e)
+        ∙ sym (ap (λ (k : Checked). packetFrom k (okPacket net U D stack) (number (net .p) stack)) ready-is)
 
     size : okSize (net .p) (net .h) ≡ true
-    size = valid net (is-ready net t s e .network) .size
+    size = valid net (is-ready net t s ready-is .network) .size
 
     pub no-node : net .n ≤ U → Packet.Refused 4 ≡ packetOf net t U D stack
     unfolding okPacket
@@ -56,16 +59,16 @@ module _ (net : Network) (t : Table) (U D : ℕ) (stack : List ℕ) where
     unfolding okPacket
     no-destination here high = answers false (simp (lt-ltb U (net .n) here, le-ltb D (net .n) high))
 
-    pub no-stack : (r : ℕ) → U < net .n → D < net .n → numberOf (net .p) (net .h) stack ≡ Answer.Refused r → Packet.Refused r ≡ packetOf net t U D stack
+    pub no-stack : (r : ℕ) → U < net .n → D < net .n → {a : Answer} → a ≡ numberOf (net .p) (net .h) stack → a ≡ Answer.Refused r → Packet.Refused r ≡ packetOf net t U D stack
     unfolding okPacket
-    no-stack r here there d =
-        let w = refused-so (okStack (net .p) (net .h) stack) (number (net .p) stack) r (simp size at d) in
+    no-stack r here there is d =
+        let w = refused-so (okStack (net .p) (net .h) stack) (number (net .p) stack) r (simp size at (sym is ∙ d)) in
         ap Packet.Refused (w .1) ∙ answers false (simp (lt-ltb U (net .n) here, lt-ltb D (net .n) there) (w .0))
 
-    pub good-packet : (N : ℕ) → U < net .n → D < net .n → numberOf (net .p) (net .h) stack ≡ Answer.Value N → Packet.Number s N ≡ packetOf net t U D stack
+    pub good-packet : (N : ℕ) → U < net .n → D < net .n → {a : Answer} → a ≡ numberOf (net .p) (net .h) stack → a ≡ Answer.Value N → Packet.Number s N ≡ packetOf net t U D stack
     unfolding okPacket
-    good-packet N here there d =
-        let w = numbered-so (okStack (net .p) (net .h) stack) (number (net .p) stack) N (simp size at d) in
+    good-packet N here there is d =
+        let w = numbered-so (okStack (net .p) (net .h) stack) (number (net .p) stack) N (simp size at (sym is ∙ d)) in
         ap (Packet.Number s) (w .1) ∙ answers true (simp (lt-ltb U (net .n) here, lt-ltb D (net .n) there) (w .0))
 
 -- ---- what lookup and carry know
@@ -75,8 +78,8 @@ pub record Begun (net : Network) (t : Table) (U D : ℕ) (stack : List ℕ) (s N
   pub number-is : N ≡ number (net .p) stack
 
 module _ (net : Network) (t : Table) (U D : ℕ) (stack : List ℕ) where
-  pub is-begun : (s N : ℕ) → packetOf net t U D stack ≡ Packet.Number s N → Begun net t U D stack s N
-  is-begun s N e = go (readyOf net (length (t .cost)) (length (t .way)) (length (t .waiting))) refl (okPacket net U D stack) refl e
+  pub is-begun : (s N : ℕ) {k : Packet} → k ≡ packetOf net t U D stack → k ≡ Packet.Number s N → Begun net t U D stack s N
+  is-begun s N is e = go (readyOf net (length (t .cost)) (length (t .way)) (length (t .waiting))) refl (okPacket net U D stack) refl (sym is ∙ e)
     where
       go : (k : Checked) → readyOf net (length (t .cost)) (length (t .way)) (length (t .waiting)) ≡ k → (ok : Bool) → okPacket net U D stack ≡ ok
           → packetFrom k ok (number (net .p) stack) ≡ Packet.Number s N → Begun net t U D stack s N
@@ -104,9 +107,10 @@ module _ (net : Network) (t : Table) (U D : ℕ) (stack : List ℕ) where
       }
 
   -- lookup
-  pub looked : (s N : ℕ) → Begun net t U D stack s N → lookAt net t U D N ≡ lookupOf net t U D stack
-  looked s N b =
-      ap (lookAt net t U D) (b .number-is)
+  pub looked : (s N : ℕ) → Begun net t U D stack s N → {l : Look} → l ≡ lookAt net t U D N → l ≡ lookupOf net t U D stack
+  looked s N b is =
+      is
+      ∙ ap (lookAt net t U D) (b .number-is)
       ∙ sym (begun net t s (b .ready) _ _ ∙ ap (λ (ok : Bool). cond ok (lookAt net t U D (number (net .p) stack)) (Look.Refused 4)) (b .good))
 
   -- carry
@@ -121,10 +125,10 @@ module _ (net : Network) (t : Table) (U D : ℕ) (stack : List ℕ) where
   too-far s N limit b high = sym (begun net t s (b .ready) _ _ ∙ simp (b .good, lt-leb limit 16384 high))
 
   -- refused before it begins
-  pub refused-both : (r : ℕ) → packetOf net t U D stack ≡ Packet.Refused r
+  pub refused-both : (r : ℕ) {k : Packet} → k ≡ packetOf net t U D stack → k ≡ Packet.Refused r
       → (Look.Refused r ≡ lookupOf net t U D stack) × ((limit : ℕ) → stop 0 0 r ≡ carryOf net t U D stack limit)
   unfolding carryOf
-  refused-both r e = go (readyOf net (length (t .cost)) (length (t .way)) (length (t .waiting))) refl (okPacket net U D stack) refl e
+  refused-both r is e = go (readyOf net (length (t .cost)) (length (t .way)) (length (t .waiting))) refl (okPacket net U D stack) refl (sym is ∙ e)
     where
       go : (k : Checked) → readyOf net (length (t .cost)) (length (t .way)) (length (t .waiting)) ≡ k → (ok : Bool) → okPacket net U D stack ≡ ok
           → packetFrom k ok (number (net .p) stack) ≡ Packet.Refused r

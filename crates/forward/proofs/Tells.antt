@@ -6,12 +6,13 @@ use mathlib.Core.Bool.{Bool, true, false, cond}
 use lib.Dec.{leb, eqb}
 use borrow.Author.Tests.{ltb-true}
 use Rattle.lists.proofs.Tests.{both}
-use Rattle.stacks.specs.Answers.{appliedOf, numberAfter}
-use Rattle.stacks.specs.declared.After.{After}
 use Rattle.stacks.proofs.Tests.{within}
-use Rattle.stacks.proofs.Laws.{leads}
-use Rattle.network.specs.Network.{Network, stacks, present, can}
+use Rattle.functions.specs.Answers.{appliedOf, numberAfter}
+use Rattle.functions.specs.declared.After.{After}
+use Rattle.functions.proofs.Laws.{leads}
+use Rattle.network.specs.Network.{Network, stacks, present}
 use Rattle.network.proofs.Laws.{present-nodes}
+use Rattle.gateways.specs.Gateways.{can}
 use Rattle.table.specs.Table.{Table, noRow, ceiling, home}
 use Rattle.forward.specs.Forward.{lookAt, okRow, costOf, nextOf, functionOf, resultOf}
 use Rattle.forward.specs.declared.Look.{Look}

@@ -5,7 +5,8 @@ use mathlib.Core.Path.{_≡_, refl, sym, ap, _∙_}
 use mathlib.Core.List.{List}
 use mathlib.Core.Bool.{true}
 use borrow.Author.Tests.{ltb-true}
-use Rattle.network.specs.Network.{Network, stacks, word, can, price, weight}
+use Rattle.network.specs.Network.{Network, stacks}
+use Rattle.gateways.specs.Gateways.{word, can, price, weight}
 use Rattle.table.specs.Table.{Table, tableOf}
 use Rattle.forward.specs.Forward.{lookAt, Journey, stop, after, onward, journey}
 use Rattle.forward.specs.Answers.{lookRefusal, Carries}
@@ -15,7 +16,7 @@ use Rattle.forward.specs.declared.Carried.{Carried}
 use Rattle.forward.proofs.Tells.{forward-tells}
 
 -- hop_cost: its contract without h is the weight of the specification
-pub weight-is : (net : Network) (U f W : ℕ) → hopCost (net .n) (net .p) (net .links) (net .functions) U f W ≡ weight net U f W
+weight-is : (net : Network) (U f W : ℕ) → hopCost (net .n) (net .p) (net .links) (net .functions) U f W ≡ weight net U f W
 unfolding weight price
 weight-is net U f W = refl
 
@@ -30,6 +31,17 @@ journey-of a b h s u n r = λ i. record { hops = h i; spent = s i; node = u i; n
 -- so many hops in front of a journey, and what they cost
 abbrev pub further : ℕ → ℕ → Journey → Journey
 further hops spent j = record { hops = hops + j .hops; spent = spent + j .spent; node = j .node; number = j .number; refused = j .refused }
+
+-- an answer that tells of a journey's end after so many hops
+ends-so : (j : Journey) (hops spent U N refused : ℕ) (a : Carried) → j ≡ further hops spent (stop U N refused)
+    → a .hops ≡ hops → a .spent ≡ spent → a .node ≡ U → a .number ≡ N → a .refused ≡ refused → Carries j a
+ends-so j hops spent U N refused a e h s u n r = record {
+  hops = omega (arith, ap (λ (x : Journey). x .hops) e);
+  spent = omega (arith, ap (λ (x : Journey). x .spent) e);
+  node = u ∙ sym (ap (λ (x : Journey). x .node) e);
+  number = n ∙ sym (ap (λ (x : Journey). x .number) e);
+  refused = r ∙ sym (ap (λ (x : Journey). x .refused) e);
+}
 
 -- an answer that is no forward
 abbrev pub Stops : Look → Type 0
@@ -84,14 +96,8 @@ module _ (net : Network) (cost way : List ℕ) (D limit U₀ N₀ : ℕ) where
         → a .hops ≡ hops → a .spent ≡ spent → a .node ≡ U → a .number ≡ N → a .refused ≡ lookRefusal l
         → (waiting : List ℕ) → Carries (journey net (tableOf cost way waiting) D limit U₀ N₀) a
     stops-here l a e never h s u n r waiting =
-        let j = g .whole waiting ∙ ap (further hops spent) (ends net (tableOf cost way waiting) D (limit - hops) U N l (e waiting) never) in
-        record {
-          hops = omega (arith, h, ap (λ (x : Journey). x .hops) j);
-          spent = omega (arith, s, ap (λ (x : Journey). x .spent) j);
-          node = u ∙ sym (ap (λ (x : Journey). x .node) j);
-          number = n ∙ sym (ap (λ (x : Journey). x .number) j);
-          refused = r ∙ sym (ap (λ (x : Journey). x .refused) j);
-        }
+        ends-so (journey net (tableOf cost way waiting) D limit U₀ N₀) hops spent U N (lookRefusal l) a
+        (g .whole waiting ∙ ap (further hops spent) (ends net (tableOf cost way waiting) D (limit - hops) U N l (e waiting) never)) h s u n r
 
     module _ (W f M c : ℕ) (e : (waiting : List ℕ) → Look.Forward W f M c ≡ lookAt net (tableOf cost way waiting) U D N) where
       -- it does, and no hop is left
@@ -99,18 +105,13 @@ module _ (net : Network) (cost way : List ℕ) (D limit U₀ N₀ : ℕ) where
           → (waiting : List ℕ) → Carries (journey net (tableOf cost way waiting) D limit U₀ N₀) a
       limit-here a last h s u n r waiting =
           let none : limit - hops ≡ 0 = omega arith in
-          let j = g .whole waiting ∙ ap (further hops spent) (ap (λ (k : ℕ). journey net (tableOf cost way waiting) D k U N) none ∙ may-not net (tableOf cost way waiting) D U N W f M c (e waiting)) in
-          record {
-            hops = omega (arith, h, ap (λ (x : Journey). x .hops) j);
-            spent = omega (arith, s, ap (λ (x : Journey). x .spent) j);
-            node = u ∙ sym (ap (λ (x : Journey). x .node) j);
-            number = n ∙ sym (ap (λ (x : Journey). x .number) j);
-            refused = r ∙ sym (ap (λ (x : Journey). x .refused) j);
-          }
+          ends-so (journey net (tableOf cost way waiting) D limit U₀ N₀) hops spent U N 8 a
+          (g .whole waiting ∙ ap (further hops spent) (ap (λ (k : ℕ). journey net (tableOf cost way waiting) D k U N) none ∙ may-not net (tableOf cost way waiting) D U N W f M c (e waiting))) h s u n r
 
       -- it does, and the hop is made
-      pub goes-on : (x : ℕ) → hops < limit → x ≡ weight net U f W → x ≤ 131069 → Going net cost way D limit U₀ N₀ (hops + 1) (spent + x) W M
-      goes-on x low price-is few =
+      pub goes-on : (x : ℕ) → hops < limit → x ≡ hopCost (net .n) (net .p) (net .links) (net .functions) U f W → x ≤ 131069 → Going net cost way D limit U₀ N₀ (hops + 1) (spent + x) W M
+      goes-on x low cost-is few =
+          let price-is : x ≡ weight net U f W = cost-is ∙ weight-is net U f W in
           let tells = forward-tells net (tableOf cost way way) U D N W f M c (e way) in
           record {
             within = omega arith;

@@ -3,8 +3,9 @@ use Prim.Native.Nat.{ℕ, zero, suc, _+_, _/_, _%_}
 use mathlib.Core.Bool.{Bool, cond, _&&_}
 use lib.ListN.{getD}
 use lib.Dec.{leb, ltb, eqb}
-use Rattle.stacks.specs.Answers.{appliedOf, numberAfter}
-use Rattle.network.specs.Network.{Network, present, can, weight}
+use Rattle.functions.specs.Answers.{appliedOf, numberAfter}
+use Rattle.network.specs.Network.{Network, present}
+use Rattle.gateways.specs.Gateways.{can, weight}
 use Rattle.table.specs.Table.{Table, noRow, ceiling, place, home}
 use Rattle.forward.specs.declared.Look.{Look}
 

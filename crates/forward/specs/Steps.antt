@@ -6,9 +6,10 @@ use mathlib.Core.Bool.{Bool, cond, _&&_}
 use lib.ListN.{length}
 use lib.Dec.{leb, eqb}
 use Rattle.stacks.specs.Stacks.{number}
-use Rattle.stacks.specs.Functions.{kindOf, fromOf, toOf}
-use Rattle.network.specs.Network.{Network, stacks, refusalOf, linkAt, wordAt, receivesAt}
+use Rattle.functions.specs.Functions.{kindOf, fromOf, toOf}
+use Rattle.network.specs.Network.{Network, stacks, refusalOf, linkAt}
 use Rattle.network.specs.declared.Checked.{Checked}
+use Rattle.gateways.specs.Gateways.{wordAt, receivesAt}
 use Rattle.table.specs.Table.{Table, rowsAll}
 use Rattle.table.specs.Answers.{readyOf}
 use Rattle.forward.specs.Answers.{okPacket}

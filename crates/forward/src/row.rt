@@ -8,13 +8,7 @@ ghost use Rattle.table.specs.Table.{tableOf};
 ghost use Rattle.forward.specs.Forward.{lookAt};
 ghost use Rattle.forward.specs.Steps.{Placed, homeAs, wordAs};
 use crate::Look;
-use stacks::After;
-
-fn wide(x: u16) -> usize
-    ensures { λ r. ⌜ r ≡ x ⌝ }
-{
-    x as usize
-}
+use functions::After;
 
 // What a node's function of a number is written down as: 0, or its price and 1.
 pub(crate) fn function_word(
@@ -26,7 +20,7 @@ pub(crate) fn function_word(
 ) -> u16
     ensures { λ r. ⌜ r ≡ wordAs n p (now (functions .entry)) node function ⌝ }
 {
-    network::word_at(
+    gateways::word_at(
         n,
         p,
         functions,
@@ -55,7 +49,7 @@ fn is_home(
     if p < number {
         return false;
     }
-    network::accepts(n, p, functions, destination, number - 1)
+    gateways::accepts(n, p, functions, destination, number - 1)
 }
 
 // Being delivered is tested before the row is read; then the row's cost and way are.
@@ -94,7 +88,7 @@ pub(crate) fn look(
     if 2147303427 < paid {
         return Look::Refused(7);
     }
-    let named = wide(way[at]);
+    let named = way[at] as usize;
     let next = named / 256;
     let function = named % 256;
     if network::link_cost(n, links, node, next) == 0 {
@@ -103,9 +97,8 @@ pub(crate) fn look(
     if function_word(n, p, functions, node, function) == 0 {
         return Look::Refused(7);
     }
-    match stacks::moved(p, stacks, function, number) {
+    match functions::moved(p, stacks, function, number) {
         After::Number(result) => Look::Forward(next, function, result, paid),
-        After::NotApplicable => Look::Refused(7),
-        After::Refused(_) => Look::Refused(7),
+        _ => Look::Refused(7),
     }
 }

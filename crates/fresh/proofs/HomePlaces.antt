@@ -14,7 +14,7 @@ use borrow.Author.Tests.{lt-ltb, le-ltb, eq-eqb, eqb-true, ltb-true}
 use Rattle.lists.specs.Lists.{tabulate}
 use Rattle.lists.proofs.Tables.{length-tabulate, tabulate-same, set-tabulate}
 use Rattle.lists.proofs.Tests.{both, bool-cases}
-use Rattle.network.specs.Network.{receivesAt}
+use Rattle.gateways.specs.Gateways.{receivesAt}
 use Rattle.fresh.specs.Filling.{Shape, setBelow, isHome}
 
 -- ---- a list while the elements that pass a test are set, from the front on

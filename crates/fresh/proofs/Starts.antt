@@ -13,8 +13,9 @@ use Rattle.stacks.proofs.Count.{count-some}
 use Rattle.stacks.proofs.Tests.{sizes}
 use Rattle.words.specs.Words.{onesIn, countOf}
 use Rattle.words.proofs.Search.{count-few}
-use Rattle.network.specs.Network.{Network, stacks, receivesAt, accepts, neighbours}
+use Rattle.network.specs.Network.{Network, stacks, neighbours}
 use Rattle.network.proofs.Laws.{valid}
+use Rattle.gateways.specs.Gateways.{receivesAt, accepts}
 use Rattle.table.specs.Table.{Table, tableOf, noRow, noWay, rowsAll, homeAt, home, fresh}
 use Rattle.table.specs.Answers.{refusal, freshAnswer, freshTable}
 use Rattle.fresh.specs.Filling.{Shape, setBelow, isHome, costsBelow, waitsBelow}

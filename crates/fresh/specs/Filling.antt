@@ -4,7 +4,8 @@ use mathlib.Core.List.{List}
 use mathlib.Core.Bool.{Bool, cond, _&&_}
 use lib.Dec.{ltb, eqb}
 use Rattle.lists.specs.Lists.{tabulate}
-use Rattle.network.specs.Network.{neighboursAt, receivesAt}
+use Rattle.network.specs.Network.{neighboursAt}
+use Rattle.gateways.specs.Gateways.{receivesAt}
 use Rattle.table.specs.Table.{noRow}
 
 -- n nodes, p protocols and S stacks, as a network that is not refused has them

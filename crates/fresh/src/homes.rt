@@ -53,7 +53,7 @@ pub(crate) fn node_homes(
     let first = (node * n + node) * stacks;
     let mut x = 0;
     while x < p {
-        if network::accepts(n, p, functions, node, x) {
+        if gateways::accepts(n, p, functions, node, x) {
             cost[first + x] = 0;
             waiting[first + x] = word;
         }

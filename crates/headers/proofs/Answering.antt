@@ -1,19 +1,20 @@
 -- What `read_stack` answers and writes at each return, over plain variables.
 use Prim.Native.Nat.{ℕ, _≤_, _<_}
 use native.Mathlib.Omega.{arith}
-use mathlib.Core.Path.{_≡_, refl, ap, _∙_}
+use mathlib.Core.Path.{_≡_, refl, sym, ap, _∙_}
 use mathlib.Core.List.{List, [], _++_}
-use mathlib.Core.Bool.{Bool, true, false, cond}
+use mathlib.Core.Bool.{Bool, true, cond}
 use lib.ListN.{length, drop}
 use lib.Dec.{leb}
 use borrow.Author.Tests.{le-leb, lt-leb}
-use Rattle.stacks.specs.Stacks.{number, height}
+use Rattle.stacks.specs.Stacks.{number, height, okSize}
 use Rattle.stacks.specs.Answers.{okOut, heightOf}
 use Rattle.stacks.specs.Answers as stacks
 use Rattle.stacks.specs.declared.Answer.{Answer}
 use Rattle.stacks.proofs.Tests.{Good, good, good-ok, okSize-yes}
+use Rattle.stacks.proofs.Outcomes.{cond-value, cond-refused}
 use Rattle.stacks.proofs.Numbers.{number-ok, stackOf-number, height-number}
-use Rattle.headers.specs.Chains.{Reading, found, refused, okBound, readingOf, follow}
+use Rattle.headers.specs.Chains.{Reading, found, refused, readingOf, follow}
 use Rattle.headers.specs.Answers.{readOf, outOf}
 use Rattle.headers.specs.Steps.{chainedOf}
 use Rattle.headers.specs.declared.chain.Chained.{Chained}
@@ -33,14 +34,6 @@ found-is (found stack f t) n from to e = (stack, (cc), (cc))
 found-is (refused r k s) n from to e = absurd (let z : _≡_ {A = ℕ} 0 1 = cc in omega arith)
 
 -- what stacks::stack_of says of a stack's number, read back
-
-cond-value : (b : Bool) (x high : ℕ) → Answer.Value high ≡ cond b (Answer.Value x) (Answer.Refused 4) → (b ≡ true) × (high ≡ x)
-cond-value true x high e = (refl, (cc))
-cond-value false x high e = absurd (let z : _≡_ {A = ℕ} 0 1 = cc in omega arith)
-
-cond-refused : (b : Bool) (x r : ℕ) → Answer.Refused r ≡ cond b (Answer.Value x) (Answer.Refused 4) → b ≡ false
-cond-refused true x r e = absurd (let z : _≡_ {A = ℕ} 0 1 = cc in omega arith)
-cond-refused false x r e = refl
 
 module _ (h : ℕ) (stack out : List ℕ) (some : 1 ≤ h) (low : h ≤ 12) (g : Good 2 h stack) where
   high-is : height 2 h (number 2 stack) ≡ length stack
@@ -62,17 +55,16 @@ Answers h packet out r left = (r ≡ readOf h packet out) × (left ≡ outOf h p
 
 module _ (h : ℕ) (packet out : List ℕ) where
   pub below-bound : h < 1 → Answers h packet out (Read.Refused 1 0 0) out
-  unfolding readingOf okBound
+  unfolding readingOf okSize
   below-bound none = simp (lt-leb 1 h none) (refl, refl)
 
   pub above-bound : 12 < h → Answers h packet out (Read.Refused 1 0 0) out
-  unfolding readingOf okBound
+  unfolding readingOf okSize
   above-bound high = simp (le-leb 1 h (omega arith), lt-leb h 12 high) (refl, refl)
 
   module _ (some : 1 ≤ h) (low : h ≤ 12) where
-    in-bound : okBound h ≡ true
-    unfolding okBound
-    in-bound = simp (le-leb 1 h some, le-leb h 12 low)
+    in-bound : okSize 2 h ≡ true
+    in-bound = okSize-yes 2 h (omega arith) (omega arith) some low
 
     is-follow : readingOf h packet ≡ follow packet h 0 0 0 (length packet) []
     unfolding readingOf
@@ -113,11 +105,11 @@ module _ (h : ℕ) (packet out : List ℕ) where
       pub stack-written : (high : ℕ) (left : List ℕ) → Answer.Value high ≡ heightOf 2 h n out → left ≡ stacks.outOf 2 h n out
           → Answers h packet out (Read.Stack high n from to) left
       stack-written high left value is =
-          let c = cond-value room (length (stacked .stack)) high (value ∙ height-so) in
+          let c = cond-value room (length (stacked .stack)) high (sym (value ∙ height-so)) in
           rw (stacked .read) (simp (c .0) ((cc (c .1, stacked .numbered)), is ∙ out-so ∙ simp (c .0)))
 
       pub no-room : (refusal : ℕ) (left : List ℕ) → Answer.Refused refusal ≡ heightOf 2 h n out → left ≡ stacks.outOf 2 h n out
           → Answers h packet out (Read.Refused 9 0 0) left
       no-room refusal left value is =
-          let c = cond-refused room (length (stacked .stack)) refusal (value ∙ height-so) in
-          rw (stacked .read) (simp c (refl, is ∙ out-so ∙ simp c))
+          let c = cond-refused room (length (stacked .stack)) refusal (sym (value ∙ height-so)) in
+          rw (stacked .read) (simp (c .0) (refl, is ∙ out-so ∙ simp (c .0)))

@@ -1,14 +1,15 @@
 -- How high a chain's stack is, and where its part lies.
-use Prim.Native.Nat.{ℕ, _+_, _*_, _%_, _≤_, _<_}
+use Prim.Native.Nat.{ℕ, _+_, _≤_, _<_}
 use native.Mathlib.Omega.{arith}
 use mathlib.Core.Path.{_≡_}
 use mathlib.Core.List.{List, [], _∷_, _++_}
-use mathlib.Core.Bool.{Bool, true, false, cond, _&&_, _||_}
+use mathlib.Core.Bool.{true}
 use lib.ListN.{length, length-append}
-use lib.Dec.{leb, ltb, eqb}
-use borrow.Author.Tests.{leb-true, lt-ltb}
+use lib.Dec.{ltb}
+use borrow.Author.Tests.{lt-ltb}
+use Rattle.lists.proofs.Tests.{both}
 use Rattle.stacks.specs.Stacks.{below, okStack}
-use Rattle.stacks.proofs.Tests.{both, good-ok}
+use Rattle.stacks.proofs.Tests.{good-ok}
 use Rattle.headers.specs.Fields.{protocol}
 use Rattle.headers.specs.Chains.{Chain, innermost, around, Reads}
 use Rattle.headers.proofs.Lengths.{two-protocols, header-fits, length-fits}

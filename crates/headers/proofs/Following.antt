@@ -1,5 +1,5 @@
 -- What the loop of the chain's reader keeps, header by header: what is read from here on is what is read from the packet's first byte.
-use Prim.Native.Nat.{ℕ, _+_, _-_, _*_, _^_, _≤_, _<_}
+use Prim.Native.Nat.{ℕ, _+_, _-_, _*_, _^_, _≤_}
 use native.Mathlib.Nat.{mul-le-mul-left, pow-succ'}
 use native.Mathlib.Numerals.{add-one}
 use native.Mathlib.Omega.{arith}
@@ -55,8 +55,8 @@ module _ (packet : List ℕ) (h announced k s e n weight : ℕ) (f : Following p
   pub light : h ≤ 12 → weight ≤ 4096
   light low = omega (arith, f .weighed, weight-small k (omega (arith, f .counted)))
 
-  pub sum-few : (q : ℕ) → h ≤ 12 → q < 2 → n + weight * (q + 1) ≤ 16382
-  sum-few q low small = omega (arith, few low, light low, mul-le-mul-left weight (let two : q + 1 ≤ 2 = omega arith in two))
+  pub sum-few : (q : ℕ) → h ≤ 12 → q ≡ protocol packet s → n + weight * (q + 1) ≤ 16382
+  sum-few q low is = omega (arith, few low, light low, mul-le-mul-left weight (let two : q + 1 ≤ 2 = omega (arith, two-protocols packet s) in two))
 
   pub refuses : (r : ℕ) → r ≡ headerRefusal packet s announced e → (r ≡ 0 → ⊥) → Refused r k s ≡ chained packet h
   refuses r is bad =

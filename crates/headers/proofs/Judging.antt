@@ -1,23 +1,16 @@
 -- What the tests of a header say as numbers, and the refusal at each return of src/judged.rt, over plain variables.
-use Prim.Native.Nat.{ℕ, _+_, _-_, _*_, _≤_, _<_}
+use Prim.Native.Nat.{ℕ, _+_, _-_, _*_, _/_, _%_, _≤_, _<_}
 use native.Mathlib.Numerals.{add-one}
 use native.Mathlib.Omega.{arith}
-use mathlib.Core.Path.{_≡_, refl, sym, ap, _∙_}
+use mathlib.Core.Path.{_≡_, refl, sym, _∙_}
 use mathlib.Core.List.{List}
-use mathlib.Core.Bool.{Bool, true, false, _&&_}
+use mathlib.Core.Bool.{Bool, true, false, cond, _&&_, _||_}
 use lib.Dec.{leb, eqb}
-use borrow.Author.Tests.{eq-eqb, ne-eqb, le-leb, lt-leb, leb-true, leb-false}
-use Rattle.headers.specs.Fields.{okChecksum, okHeader, okLength, okRoom, okVersion, okWhole, packetLength, pair, plus, shortest, sum, version}
-use Rattle.headers.specs.Chains.{headerRefusal, unless}
+use borrow.Author.Tests.{eq-eqb, ne-eqb, le-leb, lt-leb}
+use Rattle.lists.specs.Lists.{unless}
+use Rattle.headers.specs.Fields.{byte, headerLength, okChecksum, okHeader, okLength, okRoom, okVersion, okWhole, packetLength, pair, plus, shortest, sum, version}
+use Rattle.headers.specs.Chains.{headerRefusal}
 use Rattle.headers.proofs.Lengths.{at-least-20}
-
--- the code judges a length by what is left after s, since e - s does not wrap
-after-start : (s x e : ℕ) → s ≤ e → leb x (e - s) ≡ leb (s + x) e
-after-start s x e low = go (leb (s + x) e) refl
-  where
-    go : (b : Bool) → leb (s + x) e ≡ b → leb x (e - s) ≡ leb (s + x) e
-    go true t = le-leb x (e - s) (omega (arith, leb-true (s + x) e t)) ∙ sym t
-    go false t = lt-leb x (e - s) (omega (arith, leb-false (s + x) e t)) ∙ sym t
 
 -- ---- the one's complement sum
 pub no-carry : (x y : ℕ) → x + y ≤ 65535 → x + y ≡ plus x y
@@ -33,20 +26,7 @@ module _ (packet : List ℕ) (s : ℕ) where
   pub sum-next : (i : ℕ) {total word r : ℕ} → total ≡ sum packet s i → word ≡ pair packet s (2 * i) → r ≡ plus total word → r ≡ sum packet s (i + 1)
   sum-next i before now sums = rw (add-one i) (sums ∙ rw (before, now))
 
--- ---- a test on the way to each return
-module _ (packet : List ℕ) (s e : ℕ) where
-  pub no-room : e ≤ s → false ≡ okRoom packet s e
-  unfolding okRoom
-  no-room past = sym (lt-leb (s + shortest packet s) e (omega (arith, at-least-20 packet s)))
-
-  pub room-is : {r : ℕ} → s < e → r ≡ shortest packet s → leb r (e - s) ≡ okRoom packet s e
-  unfolding okRoom
-  room-is low is = ap (λ (x : ℕ). leb x (e - s)) is ∙ after-start s (shortest packet s) e (omega arith)
-
-  pub length-is : {r : ℕ} → s ≤ e → r ≡ packetLength packet s → leb r (e - s) ≡ okLength packet s e
-  unfolding okLength
-  length-is low is = ap (λ (x : ℕ). leb x (e - s)) is ∙ after-start s (packetLength packet s) e low
-
+-- ---- the version
 module _ (packet : List ℕ) (s announced : ℕ) {v : ℕ} (is : v ≡ version packet s) where
   pub announced-one : (announced ≡ 0 → ⊥) → eqb v announced ≡ okVersion packet s announced
   unfolding okVersion
@@ -60,47 +40,87 @@ module _ (packet : List ℕ) (s announced : ℕ) {v : ℕ} (is : v ≡ version p
   unfolding okVersion
   outermost-other none other = simp (eq-eqb announced 0 none, ne-eqb (version packet s) 4 (λ e. other (is ∙ e)), is)
 
--- a header that is not version 6, its length h and its packet's p
-pub short-header : (h p : ℕ) {x : ℕ} → x ≡ h → x < 20 → false ≡ (leb 20 h && leb h p)
-short-header h p is low = simp (lt-leb 20 h (omega arith))
+-- ---- the tests from the header length on, at each return of `rest_judged`
+abbrev pub restRefusal : List ℕ → ℕ → ℕ → ℕ
+restRefusal packet s e = unless (okHeader packet s) 63 (unless (okLength packet s e) 64 (unless (okChecksum packet s) 65 (unless (okWhole packet s) 66 0)))
 
-pub long-header : (h p : ℕ) {x y : ℕ} → x ≡ h → y ≡ p → 20 ≤ x → leb x y ≡ (leb 20 h && leb h p)
-long-header h p is ends high = simp (le-leb 20 h (omega arith), is, ends)
+-- version 6 passes the tests of the header length, which it need not
+header-as : (packet : List ℕ) (s : ℕ) → okHeader packet s ≡ (leb 20 (headerLength packet s) && leb (headerLength packet s) (packetLength packet s))
+unfolding okHeader headerLength packetLength
+header-as packet s = go (eqb (version packet s) 6) (4 * (byte packet s 0 % 16)) (pair packet s 4) (pair packet s 2)
+  where
+    go : (six : Bool) (x y z : ℕ) → (six || (leb 20 (cond six 40 x) && leb (cond six 40 x) (cond six (40 + y) z))) ≡ (leb 20 (cond six 40 x) && leb (cond six 40 x) (cond six (40 + y) z))
+    go true x y z = sym (le-leb 40 (40 + y) (omega arith))
+    go false x y z = refl
 
--- ---- the refusal of the tests from the length on, at each return of `inner_judged`
-abbrev pub innerRefusal : List ℕ → ℕ → ℕ → ℕ
-innerRefusal packet s e = unless (okLength packet s e) 64 (unless (okChecksum packet s) 65 (unless (okWhole packet s) 66 0))
+-- a header that lies within its packet, and that within what holds it
+pub record Fits (packet : List ℕ) (s e : ℕ) : Type 0 where
+  pub header : okHeader packet s ≡ true
+  pub length : okLength packet s e ≡ true
 
-module _ (packet : List ℕ) (s e : ℕ) where
-  pub too-long : okLength packet s e ≡ false → 64 ≡ innerRefusal packet s e
-  too-long length = simp length
+module _ (packet : List ℕ) (s e : ℕ) {header long : ℕ} (is-header : header ≡ headerLength packet s) (is-long : long ≡ packetLength packet s) where
+  pub short-header : header < 20 → 63 ≡ restRefusal packet s e
+  short-header low = simp (header-as packet s, lt-leb 20 (headerLength packet s) (omega arith))
 
-  module _ (length : okLength packet s e ≡ true) where
-    pub bad-checksum : okChecksum packet s ≡ false → 65 ≡ innerRefusal packet s e
-    bad-checksum checksum = simp (length, checksum)
+  module _ (some : 20 ≤ header) where
+    pub short-packet : long < header → 63 ≡ restRefusal packet s e
+    short-packet low = simp (header-as packet s, le-leb 20 (headerLength packet s) (omega arith), lt-leb (headerLength packet s) (packetLength packet s) (omega arith))
 
-    pub fragment : okChecksum packet s ≡ true → okWhole packet s ≡ false → 66 ≡ innerRefusal packet s e
-    fragment checksum whole = simp (length, checksum, whole)
+    module _ (within : header ≤ long) (after : s ≤ e) where
+      good-header : okHeader packet s ≡ true
+      good-header = simp (header-as packet s, le-leb 20 (headerLength packet s) (omega arith), le-leb (headerLength packet s) (packetLength packet s) (omega arith))
 
-    pub right : okChecksum packet s ≡ true → okWhole packet s ≡ true → 0 ≡ innerRefusal packet s e
-    right checksum whole = simp (length, checksum, whole)
+      pub too-long : e - s < long → 64 ≡ restRefusal packet s e
+      unfolding okLength
+      too-long beyond = simp (good-header, lt-leb (s + packetLength packet s) e (omega arith))
 
--- ---- the refusal of all the tests, at each return of `judged`
+      pub fits : long ≤ e - s → Fits packet s e
+      unfolding okLength
+      fits low = record { header = good-header; length = le-leb (s + packetLength packet s) e (omega arith) }
+
+module _ (packet : List ℕ) (s e : ℕ) (q : Fits packet s e) {v : ℕ} (is : v ≡ version packet s) where
+  pub six-right : v ≡ 6 → 0 ≡ restRefusal packet s e
+  unfolding okChecksum okWhole
+  six-right six = simp (q .header, q .length, eq-eqb (version packet s) 6 (sym is ∙ six))
+
+  module _ (other : v ≡ 6 → ⊥) {header total : ℕ} (is-header : header ≡ headerLength packet s) (sums : total ≡ sum packet s (header / 2)) where
+    checksum-is : okChecksum packet s ≡ eqb total 65535
+    unfolding okChecksum
+    checksum-is = simp (ne-eqb (version packet s) 6 (λ z. other (is ∙ z)), sums, is-header)
+
+    pub bad-checksum : (total ≡ 65535 → ⊥) → 65 ≡ restRefusal packet s e
+    bad-checksum wrong = simp (q .header, q .length, checksum-is, ne-eqb total 65535 wrong)
+
+    module _ (summed : total ≡ 65535) {word : ℕ} (is-word : word ≡ pair packet s 6) where
+      whole-is : okWhole packet s ≡ eqb (word % 16384) 0
+      unfolding okWhole
+      whole-is = simp (ne-eqb (version packet s) 6 (λ z. other (is ∙ z)), is-word)
+
+      pub fragment : (word % 16384 ≡ 0 → ⊥) → 66 ≡ restRefusal packet s e
+      fragment part = simp (q .header, q .length, checksum-is, eq-eqb total 65535 summed, whole-is, ne-eqb (word % 16384) 0 part)
+
+      pub right : word % 16384 ≡ 0 → 0 ≡ restRefusal packet s e
+      right whole = simp (q .header, q .length, checksum-is, eq-eqb total 65535 summed, whole-is, eq-eqb (word % 16384) 0 whole)
+
+-- ---- all the tests, at each return of `judged`
 module _ (packet : List ℕ) (s announced e : ℕ) where
-  pub too-short : okRoom packet s e ≡ false → 61 ≡ headerRefusal packet s announced e
-  unfolding headerRefusal
-  too-short room = simp room
+  pub no-room : e ≤ s → 61 ≡ headerRefusal packet s announced e
+  unfolding headerRefusal okRoom
+  no-room past = simp (lt-leb (s + shortest packet s) e (omega (arith, at-least-20 packet s)))
+
+  pub too-short : {x : ℕ} → s < e → x ≡ shortest packet s → e - s < x → 61 ≡ headerRefusal packet s announced e
+  unfolding headerRefusal okRoom
+  too-short low is beyond = simp (lt-leb (s + shortest packet s) e (omega arith))
+
+  pub has-room : {x : ℕ} → s < e → x ≡ shortest packet s → x ≤ e - s → okRoom packet s e ≡ true
+  unfolding okRoom
+  has-room low is fits = le-leb (s + shortest packet s) e (omega arith)
 
   module _ (room : okRoom packet s e ≡ true) where
     pub wrong-version : okVersion packet s announced ≡ false → 62 ≡ headerRefusal packet s announced e
     unfolding headerRefusal
     wrong-version versioned = simp (room, versioned)
 
-    module _ (versioned : okVersion packet s announced ≡ true) where
-      pub bad-header : okHeader packet s ≡ false → 63 ≡ headerRefusal packet s announced e
-      unfolding headerRefusal
-      bad-header header = simp (room, versioned, header)
-
-      pub as-inner : {r : ℕ} → okHeader packet s ≡ true → r ≡ innerRefusal packet s e → r ≡ headerRefusal packet s announced e
-      unfolding headerRefusal
-      as-inner header is = simp (room, versioned, header) is
+    pub as-rest : {r : ℕ} → okVersion packet s announced ≡ true → r ≡ restRefusal packet s e → r ≡ headerRefusal packet s announced e
+    unfolding headerRefusal
+    as-rest versioned is = simp (room, versioned) is

@@ -6,7 +6,7 @@ use mathlib.Core.List.{List}
 use mathlib.Core.Bool.{Bool, true, false, cond, _&&_, _||_}
 use lib.Dec.{leb, eqb}
 use borrow.Author.Tests.{leb-true}
-use Rattle.stacks.proofs.Tests.{both}
+use Rattle.lists.proofs.Tests.{both}
 use Rattle.headers.specs.Fields.{byte, pair, version, protocol, shortest, headerLength, packetLength, okRoom, okHeader, okLength, end}
 
 module _ (packet : List ℕ) (s : ℕ) where

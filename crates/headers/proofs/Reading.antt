@@ -9,8 +9,9 @@ use lib.ListN.{length, length-append}
 use lib.Dec.{eqb, eqb·suc-zero}
 use lib.Seq.{append-snoc}
 use borrow.Author.Tests.{eqb-true}
+use Rattle.stacks.specs.Stacks.{okSize}
 use Rattle.headers.specs.Fields.{announces, next, protocol, inside, end, Right}
-use Rattle.headers.specs.Chains.{Chain, innermost, around, Reads, Reading, found, refused, headerRefusal, follow, okBound, readingOf}
+use Rattle.headers.specs.Chains.{Chain, innermost, around, Reads, Reading, found, refused, headerRefusal, follow, readingOf}
 use Rattle.headers.proofs.Rightness.{right, unrefused}
 
 module _ (packet : List ℕ) where
@@ -93,10 +94,10 @@ finds h packet stack from to = (reads, read)
   where
     reads : readingOf h packet ≡ found stack from to → Reads h packet stack from to
     reads f =
-        let w = found-chain packet h 0 0 0 (length packet) from to [] stack (found-past (okBound h) (follow packet h 0 0 0 (length packet) []) 1 0 0 from to stack f .1) in
+        let w = found-chain packet h 0 0 0 (length packet) from to [] stack (found-past (okSize 2 h) (follow packet h 0 0 0 (length packet) []) 1 0 0 from to stack f .1) in
         let same : w .inner ≡ stack = sym (append-nil (w .inner)) ∙ w .whole in
         record {
-          bound = found-past (okBound h) (follow packet h 0 0 0 (length packet) []) 1 0 0 from to stack f .0;
+          bound = found-past (okSize 2 h) (follow packet h 0 0 0 (length packet) []) 1 0 0 from to stack f .0;
           chain = subst (λ (l : List ℕ). Chain packet 0 0 (length packet) l from to) same (w .chain);
           low = subst (λ (l : List ℕ). length l ≤ h) same (w .low);
         }

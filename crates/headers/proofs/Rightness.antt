@@ -4,8 +4,9 @@ use native.Mathlib.Omega.{arith}
 use mathlib.Core.Path.{_≡_, refl}
 use mathlib.Core.List.{List}
 use mathlib.Core.Bool.{Bool, true, false}
+use Rattle.lists.specs.Lists.{unless}
 use Rattle.headers.specs.Fields.{okRoom, okVersion, okHeader, okLength, okChecksum, okWhole, Right}
-use Rattle.headers.specs.Chains.{headerRefusal, unless}
+use Rattle.headers.specs.Chains.{headerRefusal}
 
 passed : (b : Bool) (r x : ℕ) → unless b (suc r) x ≡ 0 → (b ≡ true) × (x ≡ 0)
 passed true r x e = (refl, e)

@@ -9,8 +9,9 @@ use mathlib.Core.Bool.{Bool, true, false, cond, true≢false, false≢true}
 use lib.ListN.{length}
 use lib.Dec.{leb, eqb}
 use borrow.Author.Tests.{eqb-true, le-leb, lt-leb}
+use Rattle.stacks.specs.Stacks.{okSize}
 use Rattle.headers.specs.Fields.{announces, protocol, shortest, headerLength, packetLength, next, okRoom, okVersion, okHeader, okLength, okChecksum, okWhole, inside, end}
-use Rattle.headers.specs.Chains.{Reading, found, refused, headerRefusal, follow, okBound, readingOf}
+use Rattle.headers.specs.Chains.{Reading, found, refused, headerRefusal, follow, readingOf}
 use Rattle.headers.proofs.Rightness.{right}
 use Rattle.headers.proofs.Lengths.{at-least-20, header-fits, room-20, length-fits}
 use Rattle.headers.proofs.Agreeing.{Agree, protocol-same, shortest-same, headerLength-same, packetLength-same, next-same, okVersion-same, okHeader-same, okWhole-same, okChecksum-same}
@@ -102,4 +103,4 @@ module _ (a b : List ℕ) (n : ℕ) (agree : Agree a b n) where
 pub trailing : (h n : ℕ) (a b : List ℕ) → shortest a 0 ≤ n → packetLength a 0 ≤ n → n ≤ length a → n ≤ length b
     → Agree a b n → readingOf h a ≡ readingOf h b
 unfolding readingOf
-trailing h n a b roomy within in-a in-b agree = ap (λ (r : Reading). cond (okBound h) r (refused 1 0 0)) (follow-same a b n agree roomy within in-a in-b h)
+trailing h n a b roomy within in-a in-b agree = ap (λ (r : Reading). cond (okSize 2 h) r (refused 1 0 0)) (follow-same a b n agree roomy within in-a in-b h)

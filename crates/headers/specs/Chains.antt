@@ -2,9 +2,11 @@
 use Prim.Native.Nat.{ℕ, zero, suc, _≤_}
 use mathlib.Core.Path.{_≡_}
 use mathlib.Core.List.{List, [], _∷_, _++_}
-use mathlib.Core.Bool.{Bool, true, cond, _&&_}
+use mathlib.Core.Bool.{true, cond}
 use lib.ListN.{length}
-use lib.Dec.{leb, eqb}
+use lib.Dec.{eqb}
+use Rattle.lists.specs.Lists.{unless}
+use Rattle.stacks.specs.Stacks.{okSize}
 use Rattle.headers.specs.Fields.{announces, protocol, next, okRoom, okVersion, okHeader, okLength, okChecksum, okWhole, Right, inside, end}
 
 -- The chain of headers from the one at `s`, announced so, in what ends at `e`: its stack from the bottom up, "outermost header on top", and
@@ -16,13 +18,9 @@ pub data Chain (packet : List ℕ) : ℕ → ℕ → ℕ → List ℕ → ℕ �
       → Chain packet (suc v) (inside packet s) (end packet s) inner from to
       → Chain packet announced s e (inner ++ protocol packet s ∷ []) from to
 
--- "Height bound h: 1 to 12."
-unfoldable pub okBound : ℕ → Bool
-okBound h = leb 1 h && leb h 12
-
--- a packet's reading: the whole chain from its first byte, no higher than h
+-- a packet's reading: the whole chain from its first byte, no higher than h, which is a height bound for stacks of two protocols
 pub record Reads (h : ℕ) (packet stack : List ℕ) (from to : ℕ) : Type 0 where
-  pub bound : okBound h ≡ true
+  pub bound : okSize 2 h ≡ true
   pub chain : Chain packet 0 0 (length packet) stack from to
   pub low : length stack ≤ h
 
@@ -30,10 +28,6 @@ pub record Reads (h : ℕ) (packet stack : List ℕ) (from to : ℕ) : Type 0 wh
 pub data Reading : Type 0 where
   found : List ℕ → ℕ → ℕ → Reading
   refused : ℕ → ℕ → ℕ → Reading
-
--- the refusal where a test fails, and else what comes next
-abbrev pub unless : Bool → ℕ → ℕ → ℕ
-unless holds refusal other = cond holds other refusal
 
 -- "then, header by header from outside: too short .., wrong version, bad header length, length beyond what holds it, bad checksum, a fragment
 -- that has an offset or more to come"; 0 where the header is right
@@ -56,4 +50,4 @@ module _ (packet : List ℕ) where
 
 -- "h out of range is 1, first", and no header met it
 unfoldable pub readingOf : ℕ → List ℕ → Reading
-readingOf h packet = cond (okBound h) (follow packet h 0 0 0 (length packet) []) (refused 1 0 0)
+readingOf h packet = cond (okSize 2 h) (follow packet h 0 0 0 (length packet) []) (refused 1 0 0)

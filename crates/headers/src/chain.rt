@@ -6,9 +6,9 @@ ghost use lib.ListN.{length};
 ghost use Rattle.headers.specs.Chains.{follow};
 ghost use Rattle.headers.specs.Steps.{chainedOf};
 use crate::fields::announced_by;
+use crate::fields::by_version;
 use crate::fields::header_length;
 use crate::fields::packet_length;
-use crate::fields::protocol_at;
 use crate::judged::judged;
 
 // The stack's number and where the innermost part begins and ends; or the refusal, the header that met it and where that starts.
@@ -17,7 +17,7 @@ pub(crate) enum Chained {
     Refused(u32, usize, usize),
 }
 
-// An inner header is lower in the stack, so it counts twice as much in the number as the one around it.
+// An inner header is lower in the stack, so it counts twice as much in the number as the one around it. Protocol 0 is IPv4, 1 is IPv6.
 pub(crate) fn followed(h: usize, packet: &[u8]) -> Chained
     requires { ⌜ h ≤ 12 ⌝ }
     ensures { λ r. ⌜ r ≡ chainedOf (follow (now (packet .entry)) h 0 0 0 (length (now (packet .entry))) []) ⌝ }
@@ -36,7 +36,7 @@ pub(crate) fn followed(h: usize, packet: &[u8]) -> Chained
         if k == h {
             return Chained::Refused(67, k, s);
         }
-        number += weight * (protocol_at(packet, s) + 1);
+        number += weight * (by_version(packet, s, 0, 1) + 1);
         let from = s + header_length(packet, s);
         let to = s + packet_length(packet, s);
         announced = announced_by(packet, s);

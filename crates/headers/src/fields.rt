@@ -1,8 +1,10 @@
 // The fields of the header that starts at s, as specs/Fields.antt names them.
 ghost use mathlib.Core.Path.{_≡_};
+ghost use mathlib.Core.Bool.{cond};
 ghost use Prim.Native.Nat.{_+_, _≤_, _<_};
+ghost use lib.Dec.{eqb};
 ghost use lib.ListN.{length, getD};
-ghost use Rattle.headers.specs.Fields.{announces, headerLength, next, packetLength, pair, protocol, shortest, version};
+ghost use Rattle.headers.specs.Fields.{announces, headerLength, next, packetLength, pair, version};
 
 fn byte_at(packet: &[u8], at: usize) -> usize
     requires { ⌜ at < length (now packet) ⌝ }
@@ -26,26 +28,15 @@ pub(crate) fn version_at(packet: &[u8], s: usize) -> usize
     byte_at(packet, s) / 16
 }
 
-// Protocol 0 is IPv4, 1 is IPv6.
-pub(crate) fn protocol_at(packet: &[u8], s: usize) -> usize
+// What the header's version chooses: `six` for version 6, `four` for any other.
+pub(crate) fn by_version(packet: &[u8], s: usize, four: usize, six: usize) -> usize
     requires { ⌜ s < length (now packet) ⌝ }
-    ensures { λ r. ⌜ (r ≡ protocol (now (packet .entry)) s) × (r < 2) ⌝ }
+    ensures { λ r. ⌜ r ≡ cond (eqb (version (now (packet .entry)) s) 6) six four ⌝ }
 {
     if version_at(packet, s) == 6 {
-        return 1;
+        return six;
     }
-    0
-}
-
-// How long a header of this version is at least.
-pub(crate) fn shortest_at(packet: &[u8], s: usize) -> usize
-    requires { ⌜ s < length (now packet) ⌝ }
-    ensures { λ r. ⌜ r ≡ shortest (now (packet .entry)) s ⌝ }
-{
-    if version_at(packet, s) == 6 {
-        return 40;
-    }
-    20
+    four
 }
 
 // How long the header is.
@@ -53,10 +44,7 @@ pub(crate) fn header_length(packet: &[u8], s: usize) -> usize
     requires { ⌜ s < length (now packet) ⌝ }
     ensures { λ r. ⌜ (r ≡ headerLength (now (packet .entry)) s) × (r ≤ 60) ⌝ }
 {
-    if version_at(packet, s) == 6 {
-        return 40;
-    }
-    4 * (byte_at(packet, s) % 16)
+    by_version(packet, s, 4 * (byte_at(packet, s) % 16), 40)
 }
 
 // How long the packet is, header and all.
@@ -70,23 +58,12 @@ pub(crate) fn packet_length(packet: &[u8], s: usize) -> usize
     pair_at(packet, s, 2)
 }
 
-// The protocol number of what follows the header.
-fn next_at(packet: &[u8], s: usize) -> usize
-    requires { ⌜ s + 20 ≤ length (now packet) ⌝ }
-    ensures { λ r. ⌜ r ≡ next (now (packet .entry)) s ⌝ }
-{
-    if version_at(packet, s) == 6 {
-        return byte_at(packet, s + 6);
-    }
-    byte_at(packet, s + 9)
-}
-
 // The version of the header that follows; 0 where the chain ends here.
 pub(crate) fn announced_by(packet: &[u8], s: usize) -> usize
     requires { ⌜ s + 20 ≤ length (now packet) ⌝ }
     ensures { λ r. ⌜ r ≡ announces (next (now (packet .entry)) s) ⌝ }
 {
-    let next = next_at(packet, s);
+    let next = byte_at(packet, s + by_version(packet, s, 9, 6));
     if next == 4 {
         return 4;
     }

@@ -1,14 +1,14 @@
 // Whether the header at s is right, test by test in the order of the refusals; e is where what holds it ends.
 ghost use mathlib.Core.Path.{_≡_};
-ghost use mathlib.Core.Bool.{true};
 ghost use Prim.Native.Nat.{_+_, _*_, _≤_, _<_};
 ghost use lib.ListN.{length};
-ghost use Rattle.headers.specs.Fields.{headerLength, okChecksum, okHeader, okLength, okRoom, okVersion, okWhole, plus, sum};
-ghost use Rattle.headers.specs.Chains.{headerRefusal, unless};
+ghost use Rattle.lists.specs.Lists.{unless};
+ghost use Rattle.headers.specs.Fields.{okChecksum, okHeader, okLength, okVersion, okWhole, plus, sum};
+ghost use Rattle.headers.specs.Chains.{headerRefusal};
+use crate::fields::by_version;
 use crate::fields::header_length;
 use crate::fields::packet_length;
 use crate::fields::pair_at;
-use crate::fields::shortest_at;
 use crate::fields::version_at;
 
 // The one's complement sum of two 16-bit numbers.
@@ -37,16 +37,6 @@ fn summed(packet: &[u8], s: usize, count: usize) -> usize
     total
 }
 
-fn has_room(packet: &[u8], s: usize, e: usize) -> bool
-    requires { ⌜ e ≤ length (now packet) ⌝ }
-    ensures { λ r. ⌜ r ≡ okRoom (now (packet .entry)) s e ⌝ }
-{
-    if e <= s {
-        return false;
-    }
-    shortest_at(packet, s) <= e - s
-}
-
 fn version_fits(packet: &[u8], s: usize, announced: usize) -> bool
     requires { ⌜ s < length (now packet) ⌝ }
     ensures { λ r. ⌜ r ≡ okVersion (now (packet .entry)) s announced ⌝ }
@@ -61,63 +51,36 @@ fn version_fits(packet: &[u8], s: usize, announced: usize) -> bool
     version == 6
 }
 
-fn good_header(packet: &[u8], s: usize) -> bool
-    requires { ⌜ s + 20 ≤ length (now packet) ⌝ }
-    ensures { λ r. ⌜ r ≡ okHeader (now (packet .entry)) s ⌝ }
-{
-    if version_at(packet, s) == 6 {
-        return true;
-    }
-    let header = header_length(packet, s);
-    if header < 20 {
-        return false;
-    }
-    header <= packet_length(packet, s)
-}
-
-fn fits(packet: &[u8], s: usize, e: usize) -> bool
+// The tests from the header length on. (Version 6 passes those of the header length: its header has 40 bytes, and its packet as many or more.)
+fn rest_judged(packet: &[u8], s: usize, e: usize) -> u32
     requires { ⌜ (s + 20 ≤ e) × (e ≤ length (now packet)) ⌝ }
-    ensures { λ r. ⌜ r ≡ okLength (now (packet .entry)) s e ⌝ }
+    ensures { λ r.
+        ⌜
+        r ≡ unless (okHeader (now (packet .entry)) s) 63 (unless (okLength (now (packet .entry)) s e) 64
+        (unless (okChecksum (now (packet .entry)) s) 65 (unless (okWhole (now (packet .entry)) s) 66 0)))
+        ⌝ }
 {
-    packet_length(packet, s) <= e - s
-}
-
-fn good_checksum(packet: &[u8], s: usize) -> bool
-    requires { ⌜ (s < length (now packet)) × (s + headerLength (now packet) s ≤ length (now packet)) ⌝ }
-    ensures { λ r. ⌜ r ≡ okChecksum (now (packet .entry)) s ⌝ }
-{
-    if version_at(packet, s) == 6 {
-        return true;
+    let header = header_length(packet, s);
+    let long = packet_length(packet, s);
+    if header < 20 {
+        return 63;
     }
-    summed(packet, s, header_length(packet, s) / 2) == 65535
-}
-
-// No fragment: neither an offset nor more to come.
-fn is_whole(packet: &[u8], s: usize) -> bool
-    requires { ⌜ s + 20 ≤ length (now packet) ⌝ }
-    ensures { λ r. ⌜ r ≡ okWhole (now (packet .entry)) s ⌝ }
-{
-    if version_at(packet, s) == 6 {
-        return true;
+    if long < header {
+        return 63;
     }
-    pair_at(packet, s, 6) % 16384 == 0
-}
-
-// The tests from the length on.
-fn inner_judged(packet: &[u8], s: usize, e: usize) -> u32
-    requires { ⌜ (s + 20 ≤ e) × (e ≤ length (now packet)) × (okHeader (now packet) s ≡ true) ⌝ }
-    ensures { λ r. ⌜ r ≡ unless (okLength (now (packet .entry)) s e) 64 (unless (okChecksum (now (packet .entry)) s) 65 (unless (okWhole (now (packet .entry)) s) 66 0)) ⌝ }
-{
-    if fits(packet, s, e) {
-        if good_checksum(packet, s) {
-            if is_whole(packet, s) {
-                return 0;
-            }
-            return 66;
+    if e - s < long {
+        return 64;
+    }
+    if version_at(packet, s) == 6 {
+        return 0;
+    }
+    if summed(packet, s, header / 2) == 65535 {
+        if pair_at(packet, s, 6) % 16384 == 0 {
+            return 0;
         }
-        return 65;
+        return 66;
     }
-    64
+    65
 }
 
 // The first refusal that the header meets; 0 where it is right.
@@ -125,14 +88,14 @@ pub(crate) fn judged(packet: &[u8], s: usize, announced: usize, e: usize) -> u32
     requires { ⌜ e ≤ length (now packet) ⌝ }
     ensures { λ r. ⌜ r ≡ headerRefusal (now (packet .entry)) s announced e ⌝ }
 {
-    if has_room(packet, s, e) {
-        if version_fits(packet, s, announced) {
-            if good_header(packet, s) {
-                return inner_judged(packet, s, e);
-            }
-            return 63;
-        }
-        return 62;
+    if e <= s {
+        return 61;
     }
-    61
+    if e - s < by_version(packet, s, 20, 40) {
+        return 61;
+    }
+    if version_fits(packet, s, announced) {
+        return rest_judged(packet, s, e);
+    }
+    62
 }

@@ -1,4 +1,4 @@
--- P6 of the specification by computation: node 2 of smallnet, fresh, hears from node 3 about destination 3 and stack a.
+-- A hearing by computation, that of example P6 with the whole rows: node 2 of smallnet, fresh, hears from node 3 about destination 3 and stack a.
 use Prim.Native.Nat.{ℕ, _+_, _-_, _*_}
 use mathlib.Core.Path.{_≡_, refl}
 use mathlib.Core.List.{List}
@@ -7,9 +7,9 @@ use lib.ListN.{set}
 use lib.Dec.{eqb}
 use Rattle.lists.specs.Lists.{tabulate, firstBelow, howMany}
 use Rattle.relax.specs.Graph.{wins}
-use Rattle.stacks.specs.Functions.{okFunction}
-use Rattle.stacks.specs.Answers.{okMove}
-use Rattle.words.specs.Words.{withAll}
+use Rattle.functions.specs.Functions.{okFunction}
+use Rattle.functions.specs.Answers.{okMove}
+use Rattle.bits.specs.Bits.{withAll}
 use Rattle.hear.specs.Hearing.{Gateway, Message, Rows, leadsBy, leader, offer, takes, costAt, wayAt, waitingAt, heard, taken}
 use Rattle.hear.specs.Answers.{gatewayOf, messageOf, rowsOf, okHearing, refusalOf, answerOf, rowsAfter}
 use Rattle.hear.specs.declared.Heard.{Heard}
@@ -38,9 +38,9 @@ place = 3 * 6 + 4 - 1
 abbrev after : Rows
 after = rowsOf (set (fresh .costs) place 2) (set (fresh .ways) place (256 * 3 + (128 + 8 * 0 + 1))) (set (fresh .waiting) place 10)
 
-pub P6 : (answerOf node2 from3 fresh ≡ Heard.Rows 1) × (rowsAfter node2 from3 fresh ≡ after)
+pub one-row : (answerOf node2 from3 fresh ≡ Heard.Rows 1) × (rowsAfter node2 from3 fresh ≡ after)
 unfolding refusalOf okHearing rowsAfter heard taken takes costAt wayAt waitingAt leader leadsBy offer tabulate firstBelow howMany wins okMove okFunction withAll
-P6 = (refl, refl)
+one-row = (refl, refl)
 
 -- the same message again offers no less, so that no row takes it
 pub again : (answerOf node2 from3 after ≡ Heard.Rows 0) × (rowsAfter node2 from3 after ≡ after)

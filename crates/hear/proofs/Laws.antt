@@ -8,17 +8,17 @@ use mathlib.Core.List.{List}
 use mathlib.Core.Bool.{Bool, true, false, cond, _&&_}
 use lib.ListN.{length, getD}
 use lib.Dec.{ltb, eqb}
-use borrow.Author.Tests.{ltb-true, eqb-true, lt-ltb, le-ltb, eq-eqb, ne-eqb}
+use borrow.Author.Tests.{lt-ltb, le-ltb, eq-eqb, ne-eqb}
 use Rattle.lists.specs.Lists.{firstFrom, firstBelow}
-use Rattle.lists.proofs.Tests.{bool-cases, both}
+use Rattle.lists.proofs.Tests.{bool-cases}
 use Rattle.lists.proofs.Tables.{length-tabulate, getD-tabulate, tabulate-same}
 use Rattle.lists.proofs.Counts.{howMany-same}
 use Rattle.relax.specs.Graph.{wins}
-use Rattle.stacks.specs.Answers.{movedOf}
-use Rattle.stacks.specs.declared.After.the-variants.{Number}
+use Rattle.functions.specs.Answers.{movedOf}
+use Rattle.functions.specs.declared.After.the-variants.{Number}
 use Rattle.hear.specs.Hearing.{Gateway, Message, Rows, leadsBy, leader, leaderAt, offer, takes, costAt, wayAt, waitingAt, heard, taken}
 use Rattle.hear.proofs.Leaders.{leader-found, leader-only}
-use Rattle.hear.proofs.Below.{rows-eq}
+use Rattle.hear.proofs.Below.{rows-eq, takes-says}
 
 module _ (g : Gateway) (m : Message) where
   -- The leader is a function that the gateway has, and it makes the heard stack.
@@ -55,14 +55,9 @@ module _ (g : Gateway) (m : Message) where
   -- A row takes an offer just where it is the destination's, has a leader, and the leader's offer is below its cost.
   pub takes-facts : (costs : List ℕ) (j : ℕ) → takes g m costs j ≡ true
       → (j / g .most ≡ m .destination) × (leaderAt g m j < 192) × (offer g m (leaderAt g m j) < getD costs j 0)
-  unfolding takes wins
   takes-facts costs j e =
-      let d = both (eqb (j / g .most) (m .destination)) (ltb (leaderAt g m j) 192 && ltb (offer g m (leaderAt g m j)) (getD costs j 0)) e in
-      let q = both (ltb (leaderAt g m j) 192) (ltb (offer g m (leaderAt g m j)) (getD costs j 0)) (d .1) in (
-        eqb-true (j / g .most) (m .destination) (d .0),
-        ltb-true (leaderAt g m j) 192 (q .0),
-        ltb-true (offer g m (leaderAt g m j)) (getD costs j 0) (q .1),
-      )
+      let t = takes-says g m costs j e in
+      (t .there, t .led, t .less)
 
   pub takes-where : (costs : List ℕ) (j : ℕ) → j / g .most ≡ m .destination → leaderAt g m j < 192 → offer g m (leaderAt g m j) < getD costs j 0 → takes g m costs j ≡ true
   unfolding takes wins

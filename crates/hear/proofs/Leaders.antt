@@ -5,9 +5,9 @@ use mathlib.Core.Bool.{true, false≢true}
 use lib.Dec.{ltb}
 use borrow.Author.Tests.{ltb-true, eqb-true, eq-eqb, lt-ltb}
 use Rattle.lists.proofs.Tests.{both, first-passes, first-only}
-use Rattle.stacks.specs.Answers.{movedOf}
-use Rattle.stacks.specs.declared.After.{After}
-use Rattle.stacks.specs.declared.After.the-variants.{Number, NotApplicable, Refused}
+use Rattle.functions.specs.Answers.{movedOf}
+use Rattle.functions.specs.declared.After.{After}
+use Rattle.functions.specs.declared.After.the-variants.{Number, NotApplicable, Refused}
 use Rattle.hear.specs.Hearing.{Gateway, Message, isNumber, leadsBy, leader}
 use Rattle.hear.proofs.Sources.{one-function}
 

@@ -1,44 +1,42 @@
--- What `offered` does at each of its returns, over plain variables.
+-- What `offer_of` answers at each of its returns, over plain variables.
 use Prim.Native.Nat.{ℕ, _+_, _-_, _*_, _≤_, _<_}
-use native.Mathlib.Omega.{arith}
-use mathlib.Core.Path.{_≡_}
-use mathlib.Core.Bool.{true, false, and-false}
-use lib.ListN.{getD, set}
-use borrow.Author.Tests.{lt-ltb, le-ltb, le-leb, lt-leb}
-use Rattle.relax.specs.Graph.{wins}
-use Rattle.words.specs.Words.{withAll}
-use Rattle.hear.specs.Hearing.{Message, Rows}
-use Rattle.hear.specs.Steps.{placeOf, offersTo, Offered}
+use mathlib.Core.Path.{_≡_, sym, ap₂, _∙_}
+use mathlib.Core.Bool.{Bool, true, false, _&&_, and-assoc}
+use lib.Dec.{leb, ltb}
+use borrow.Author.Tests.{ltb-true, leb-true}
+use Rattle.lists.proofs.Tests.{both}
+use Rattle.hear.specs.Steps.{functionOf, placeOf, offerOf}
+use Rattle.hear.specs.declared.Candidate.{Candidate}
 
-module _ (most neighbours : ℕ) (m : Message) (word f n : ℕ) (r : Rows) where
-  kept : offersTo most m word n (r .costs) ≡ false → Offered most neighbours m word f n 0 r r
-  kept e = record { counted = simp e; rows = simp e }
+module _ (most word : ℕ) (c : Candidate) where
+  -- the gateway can, and there is such a row
+  abbrev test : Bool
+  test = ltb 0 word && (leb 1 (c .number) && leb (c .number) most)
 
-  pub no-word : word ≡ 0 → Offered most neighbours m word f n 0 r r
-  unfolding offersTo
-  no-word e = kept (simp (le-ltb 0 word (omega arith)))
+  abbrev tested : Bool
+  tested = (ltb 0 word && leb 1 (c .number)) && leb (c .number) most
 
-  pub no-row : most < n → Offered most neighbours m word f n 0 r r
-  unfolding offersTo
-  no-row more = kept (simp (lt-leb n most more, and-false))
+  same : tested ≡ test
+  same = simp and-assoc
 
-  pub no-gain : getD (r .costs) (placeOf most (m .destination) n) 0 ≤ m .cost + m .link + (word - 1) → Offered most neighbours m word f n 0 r r
-  unfolding offersTo wins
-  no-gain low = kept (simp (le-ltb (m .cost + m .link + (word - 1)) (getD (r .costs) (placeOf most (m .destination) n) 0) low, and-false))
+  pub record Makes : Type 0 where
+    pub has : 0 < word
+    pub some : 1 ≤ c .number
+    pub low : c .number ≤ most
 
-  passes : (o : ℕ) → o ≡ m .cost + m .link + (word - 1) → (word ≡ 0 → ⊥) → n ≤ most → o < getD (r .costs) (placeOf most (m .destination) n) 0
-      → offersTo most m word n (r .costs) ≡ true
-  unfolding offersTo wins
-  passes o is has low less =
-      simp (lt-ltb 0 word (omega (arith, has)), le-leb n most low, lt-ltb (m .cost + m .link + (word - 1)) (getD (r .costs) (placeOf most (m .destination) n) 0) (omega arith))
+  pub makes : tested ≡ true → Makes
+  makes e =
+      let a = both (ltb 0 word) (leb 1 (c .number) && leb (c .number) most) (sym same ∙ e) in
+      let b = both (leb 1 (c .number)) (leb (c .number) most) (a .1) in
+      record { has = ltb-true 0 word (a .0); some = leb-true 1 (c .number) (b .0); low = leb-true (c .number) most (b .1) }
 
-  pub gain : (o w : ℕ) → o ≡ m .cost + m .link + (word - 1) → w ≡ withAll (getD (r .waiting) (placeOf most (m .destination) n) 0) neighbours
-      → (word ≡ 0 → ⊥) → n ≤ most → o < getD (r .costs) (placeOf most (m .destination) n) 0
-      → Offered most neighbours m word f n 1 r (record {
-        costs = set (r .costs) (placeOf most (m .destination) n) o;
-        ways = set (r .ways) (placeOf most (m .destination) n) (256 * m .sender + f);
-        waiting = set (r .waiting) (placeOf most (m .destination) n) w;
-      })
-  gain o w is joined has low less =
-      let e : offersTo most m word n (r .costs) ≡ true = passes o is has low less in
-      record { counted = simp e; rows = simp (e, is, joined) }
+  module _ (sender destination cost link : ℕ) where
+    pub none : tested ≡ false → record { place = 0; cost = 4294967295; way = 65535 } ≡ offerOf most sender destination cost link word c
+    unfolding offerOf
+    none e = simp (sym same ∙ e)
+
+    pub made : tested ≡ true → (total way : ℕ) → total ≡ cost + link + (word - 1) → way ≡ 256 * sender + functionOf c
+        → record { place = placeOf most destination (c .number); cost = total; way = way } ≡ offerOf most sender destination cost link word c
+    unfolding offerOf
+    made e total way costs ways =
+        simp (sym same ∙ e) (ap₂ (λ (x y : ℕ). record { place = placeOf most destination (c .number); cost = x; way = y }) costs ways)

@@ -8,12 +8,12 @@ use lib.Dec.{leb, ltb, eqb}
 use borrow.Author.Tests.{ltb-true, eqb-true, eq-eqb, lt-ltb, le-leb}
 use Rattle.lists.proofs.Tests.{both}
 use Rattle.stacks.specs.Stacks.{top, rest}
-use Rattle.stacks.specs.Functions.{kindOf, fromOf, toOf}
-use Rattle.stacks.specs.Answers.{moveNumber, movedOf, okMove}
-use Rattle.stacks.specs.declared.After.{After}
-use Rattle.stacks.specs.declared.After.the-variants.{Number, NotApplicable, Refused}
-use Rattle.stacks.proofs.Tests.{Moves, moves, okFunction-yes}
 use Rattle.stacks.proofs.Numbers.{num-top, num-rest}
+use Rattle.functions.proofs.Outcomes.{cond-moved}
+use Rattle.functions.specs.Functions.{kindOf, fromOf, toOf}
+use Rattle.functions.specs.Answers.{moveNumber, movedOf, okMove}
+use Rattle.functions.specs.declared.After.the-variants.{Number, NotApplicable}
+use Rattle.functions.proofs.Tests.{Moves, moves, okFunction-yes}
 
 -- the function of this kind, from a and to b, makes the stack `number` of the stack n
 abbrev pub Source : ℕ → ℕ → ℕ → ℕ → ℕ → ℕ → Type 0
@@ -24,10 +24,6 @@ Source p number (suc (suc k)) a b n = (a ≡ top p number) × (n ≡ p * number 
 cond-number : (c : Bool) (x m : ℕ) → cond c (Number x) NotApplicable ≡ Number m → (c ≡ true) × (x ≡ m)
 cond-number true x m e = (refl, (cc))
 cond-number false x m e = absurd (let z : _≡_ {A = ℕ} 0 1 = cc in omega arith)
-
-cond-moved : (c : Bool) (x : After) (m : ℕ) → cond c x (Refused 4) ≡ Number m → (c ≡ true) × (x ≡ Number m)
-cond-moved true x m e = (refl, e)
-cond-moved false x m e = absurd (let z : _≡_ {A = ℕ} 0 1 = cc in omega arith)
 
 -- a number from 1 on is put together again from its rest and its top
 pub parts : (p n : ℕ) → 1 ≤ n → p * rest p n + top p n + 1 ≡ n
@@ -133,13 +129,14 @@ module _ (p most f n number : ℕ) where
       simp (le-leb 1 p some-p, le-leb p 8 few, le-leb most 78536544840 (omega arith), le-leb 1 n some, le-leb n most low, okFunction-yes p f kind from to)
       (leads-back p most number n (fromOf f) (toOf f) (kindOf f) from to positive within s)
 
+-- a function's number from its parts
+pub put-together : (f : ℕ) → f ≡ 64 * kindOf f + 8 * fromOf f + toOf f
+put-together f = let d : f / 8 / 8 ≡ f / 64 = omega arith in omega arith
+
 pub one-function : (p most f g n number : ℕ) → movedOf p most f n ≡ Number number → movedOf p most g n ≡ Number number → f ≡ g
 one-function p most f g n number e d =
     let x = led p most f n number e in
     let y = led p most g n number d in
     let q = one-source p number (x .moves .some) (x .some) (kindOf f) (kindOf g) (fromOf f) (toOf f) (fromOf g) (toOf g) n
     (omega (arith, x .moves .parts .kind)) (omega (arith, y .moves .parts .kind)) (x .moves .parts .from) (y .moves .parts .from) (x .from-source) (y .from-source) in
-    digits f ∙ q ∙ sym (digits g)
-  where
-    digits : (h : ℕ) → h ≡ 64 * kindOf h + 8 * fromOf h + toOf h
-    digits h = let d : h / 8 / 8 ≡ h / 64 = omega arith in omega arith
+    put-together f ∙ q ∙ sym (put-together g)

@@ -1,141 +1,171 @@
--- One offer is one step of `heard`: of the functions from k to l - 1 only f leads to the heard stack, from the stack n alone, so one row can change.
+-- One candidate's offer is one step of `heard`: of the functions that lead to the heard stack it alone is in turn, from its stack alone, so one row can change.
 use Prim.Native.Nat.{ℕ, _+_, _-_, _*_, _/_, _%_, _≤_, _<_}
 use native.Mathlib.Omega.{arith}
 use mathlib.Core.Path.{_≡_, sym, ap, _∙_, subst}
-use mathlib.Core.Bool.{Bool, true, false, cond, _&&_, and-false}
+use mathlib.Core.Bool.{Bool, true, false, _&&_, and-false}
 use lib.ListN.{length, getD, set}
 use lib.Dec.{leb, ltb}
 use borrow.Author.Tests.{ltb-true, leb-true, eq-eqb, lt-ltb, le-ltb, le-leb}
 use Rattle.lists.specs.Lists.{howMany, one}
 use Rattle.lists.proofs.Tests.{bool-cases, both}
-use Rattle.lists.proofs.Tables.{length-tabulate, getD-tabulate, set-tabulate}
+use Rattle.lists.proofs.Tables.{getD-tabulate, set-tabulate}
 use Rattle.lists.proofs.Counts.{howMany-more}
 use Rattle.relax.specs.Graph.{wins}
-use Rattle.hear.specs.Hearing.{Gateway, Message, Rows, leader, leaderAt, offer}
-use Rattle.hear.specs.Steps.{takesBelow, costBelow, wayBelow, waitingBelow, rowsBelow, takenBelow, Goes, placeOf, offersTo, rowsWith, Offered}
+use Rattle.bits.specs.Bits.{withAll}
+use Rattle.hear.specs.Hearing.{Gateway, Message, Rows, leader, leaderAt, offer, takes}
+use Rattle.hear.specs.Steps.{candidateOf, functionOf, placeOf, offerOf, Turn}
+use Rattle.hear.specs.declared.Candidate.{Candidate}
+use Rattle.hear.specs.declared.Offer.{Offer}
 use Rattle.hear.proofs.Sources.{led}
 use Rattle.hear.proofs.Leaders.{leader-found}
-use Rattle.hear.proofs.Below.{place-div, place-mod, place-within, place-only, rows-eq, rows-same, taken-same, same-takes}
+use Rattle.hear.proofs.Candidates.{turnOf, function-low, function-turn, only, leads}
+use Rattle.hear.proofs.Below.{takesBelow, costBelow, wayBelow, waitingBelow, rowsBelow, takenBelow, place-div, place-mod, place-within, place-only, rows-eq, rows-same, taken-same, same-takes}
 
--- the functions from k to l - 1: of them only f can lead to the heard stack, from the stack n alone, and does where the gateway has it
-pub record Step (g : Gateway) (m : Message) (k l f n : ℕ) : Type 0 where
-  pub low : k ≤ f
-  pub high : f < l
-  pub within : l ≤ 192
-  pub some : 1 ≤ n
-  pub only : (x : ℕ) → k ≤ leader g m x → leader g m x < l → (leader g m x ≡ f) × (x ≡ n)
-  pub leads : 0 < g .words f → n ≤ g .most → leader g m n ≡ f
+-- the row at the offer's place with its cost, its way and the waiting bits
+abbrev pub rowsWith : Offer → ℕ → Rows → Rows
+rowsWith o neighbours r = record {
+  costs = set (r .costs) (o .place) (o .cost);
+  ways = set (r .ways) (o .place) (o .way);
+  waiting = set (r .waiting) (o .place) (withAll (getD (r .waiting) (o .place) 0) neighbours);
+}
 
-module _ (g : Gateway) (m : Message) (k l f n : ℕ) (s : Step g m k l f n) (r : Rows) (wide : (m .destination + 1) * g .most ≤ length (r .costs)) where
+-- the candidate that is in turn
+abbrev pub inTurn : Gateway → Message → ℕ → Candidate
+inTurn g m i = candidateOf (g .p) (m .number) i
+
+-- and what it offers
+abbrev pub offerIn : Gateway → Message → ℕ → Offer
+offerIn g m i = offerOf (g .most) (m .sender) (m .destination) (m .cost) (m .link) (g .words (functionOf (inTurn g m i))) (inTurn g m i)
+
+-- its place is one, where there are rows
+pub offer-inside : (g : Gateway) (m : Message) (i long : ℕ) → 1 ≤ g .most → (m .destination + 1) * g .most ≤ long → offerIn g m i .place < long
+unfolding offerOf
+offer-inside g m i long some wide =
+    let n = inTurn g m i .number in
+    let f = functionOf (inTurn g m i) in
+    bool-cases (ltb 0 (g .words f) && (leb 1 n && leb n (g .most)))
+    (λ e.
+    let b = both (leb 1 n) (leb n (g .most)) (both (ltb 0 (g .words f)) (leb 1 n && leb n (g .most)) e .1) in
+    simp e (place-within (g .most) (m .destination) n long (leb-true 1 n (b .0)) (leb-true n (g .most) (b .1)) wide))
+    (λ e. simp e (omega (arith, place-within (g .most) (m .destination) 1 long (omega arith) some wide)))
+
+module _ (g : Gateway) (m : Message) (i : ℕ) (z : Turn (g .p) (m .number) i) (within : m .number ≤ g .most) (bounded : g .most ≤ 16384)
+    (r : Rows) (wide : (m .destination + 1) * g .most ≤ length (r .costs)) where
+  abbrev n : ℕ
+  n = inTurn g m i .number
+
+  abbrev f : ℕ
+  f = functionOf (inTurn g m i)
+
   -- the row that can change
   abbrev place : ℕ
   place = placeOf (g .most) (m .destination) n
 
-  abbrev test : Bool
-  test = offersTo (g .most) m (g .words f) n (rowsBelow g m k r .costs)
-
   -- another row takes the same as before
-  elsewhere : (i : ℕ) → (i ≡ place → ⊥) → takesBelow g m k (r .costs) i ≡ takesBelow g m l (r .costs) i
-  elsewhere i other =
-      same-takes g m k l (r .costs) i (omega (arith, s .low, s .high))
-      (λ q a b. absurd (other (place-only (g .most) (m .destination) n i q (s .only (i % g .most + 1) a b .1))))
+  elsewhere : (j : ℕ) → (j ≡ place → ⊥) → takesBelow g m i (r .costs) j ≡ takesBelow g m (i + 1) (r .costs) j
+  elsewhere j other =
+      same-takes g m i (r .costs) j
+      (λ t e. other (place-only (g .most) (m .destination) n j (t .there) (only g m i z within bounded (j % g .most + 1) (t .led) e .1)))
 
-  -- where f leads
-  module _ (low : n ≤ g .most) (lead : leader g m n ≡ f) where
+  -- where the gateway has the function and there is such a row
+  module _ (has : 0 < g .words f) (some : 1 ≤ n) (low : n ≤ g .most) where
+    abbrev made : Offer
+    made = record { place = place; cost = m .cost + m .link + (g .words f - 1); way = 256 * m .sender + f }
+
+    pub offers : offerIn g m i ≡ made
+    unfolding offerOf
+    offers = simp (lt-ltb 0 (g .words f) has, le-leb 1 n some, le-leb n (g .most) low)
+
     inside : place < length (r .costs)
-    inside = place-within (g .most) (m .destination) n (length (r .costs)) (s .some) low wide
+    inside = place-within (g .most) (m .destination) n (length (r .costs)) some low wide
 
     leader-place : leaderAt g m place ≡ f
-    leader-place = ap (leader g m) (place-mod (g .most) (m .destination) n (s .some) low) ∙ lead
+    leader-place = ap (leader g m) (place-mod (g .most) (m .destination) n some low) ∙ leads g m i z within bounded has some low
 
-    not-yet : takesBelow g m k (r .costs) place ≡ false
+    not-yet : takesBelow g m i (r .costs) place ≡ false
     unfolding takesBelow
-    not-yet = simp (leader-place, le-ltb f k (s .low), and-false)
+    not-yet = simp (leader-place, le-ltb (turnOf (g .p) f) i (omega (arith, function-turn g m i z within bounded)), and-false)
 
-    still : getD (rowsBelow g m k r .costs) place 0 ≡ getD (r .costs) place 0
+    still : getD (rowsBelow g m i r .costs) place 0 ≡ getD (r .costs) place 0
     unfolding rowsBelow costBelow
-    still = getD-tabulate (length (r .costs)) (costBelow g m k r) place 0 inside ∙ simp not-yet
+    still = getD-tabulate (length (r .costs)) (costBelow g m i r) place 0 inside ∙ simp not-yet
 
-    still-waiting : getD (rowsBelow g m k r .waiting) place 0 ≡ getD (r .waiting) place 0
+    still-waiting : getD (rowsBelow g m i r .waiting) place 0 ≡ getD (r .waiting) place 0
     unfolding rowsBelow waitingBelow
-    still-waiting = getD-tabulate (length (r .costs)) (waitingBelow g m k r) place 0 inside ∙ simp not-yet
+    still-waiting = getD-tabulate (length (r .costs)) (waitingBelow g m i r) place 0 inside ∙ simp not-yet
 
-    -- the offer wins in the rows as they are just where it wins in those of the start
-    takes-now : takesBelow g m l (r .costs) place ≡ wins (m .cost + m .link + (g .words f - 1)) (getD (rowsBelow g m k r .costs) place 0)
-    unfolding takesBelow offer
-    takes-now = simp (eq-eqb (place / g .most) (m .destination) (place-div (g .most) (m .destination) n (s .some) low), leader-place, lt-ltb f l (s .high), still)
+    -- the row takes the offer in the rows as they are just where it takes it in those of the start
+    module _ (less : m .cost + m .link + (g .words f - 1) < getD (rowsBelow g m i r .costs) place 0) where
+      takes-now : takesBelow g m (i + 1) (r .costs) place ≡ true
+      unfolding takesBelow takes wins offer
+      takes-now =
+          let won : m .cost + m .link + (g .words f - 1) < getD (r .costs) place 0 = omega (arith, still) in
+          simp (
+            leader-place,
+            eq-eqb (place / g .most) (m .destination) (place-div (g .most) (m .destination) n some low),
+            lt-ltb f 192 (function-low g m i z within bounded),
+            lt-ltb (m .cost + m .link + (g .words f - 1)) (getD (r .costs) place 0) won,
+            lt-ltb (turnOf (g .p) f) (i + 1) (omega (arith, function-turn g m i z within bounded)),
+          )
 
-    module _ (wins-now : takesBelow g m l (r .costs) place ≡ true) where
-      rows-set : rowsWith place (m .cost + m .link + (g .words f - 1)) (256 * m .sender + f) (g .neighbours) (rowsBelow g m k r) ≡ rowsBelow g m l r
+      rows-set : rowsWith made (g .neighbours) (rowsBelow g m i r) ≡ rowsBelow g m (i + 1) r
       unfolding rowsBelow costBelow wayBelow waitingBelow offer
       rows-set =
-          rows-eq (rowsWith place (m .cost + m .link + (g .words f - 1)) (256 * m .sender + f) (g .neighbours) (rowsBelow g m k r))
-          (rowsBelow g m l r .costs) (rowsBelow g m l r .ways) (rowsBelow g m l r .waiting)
-          (ap (set (rowsBelow g m k r .costs) place) (sym (simp (wins-now, leader-place)))
-          ∙ set-tabulate 0 (length (r .costs)) (costBelow g m k r) (costBelow g m l r) place inside (λ i b o. simp (elsewhere i o)))
-          (ap (set (rowsBelow g m k r .ways) place) (sym (simp (wins-now, leader-place)))
-          ∙ set-tabulate 0 (length (r .costs)) (wayBelow g m k r) (wayBelow g m l r) place inside (λ i b o. simp (elsewhere i o)))
-          (ap (set (rowsBelow g m k r .waiting) place) (sym (simp (wins-now, still-waiting)))
-          ∙ set-tabulate 0 (length (r .costs)) (waitingBelow g m k r) (waitingBelow g m l r) place inside (λ i b o. simp (elsewhere i o)))
+          rows-eq (rowsWith made (g .neighbours) (rowsBelow g m i r))
+          (rowsBelow g m (i + 1) r .costs) (rowsBelow g m (i + 1) r .ways) (rowsBelow g m (i + 1) r .waiting)
+          (ap (set (rowsBelow g m i r .costs) place) (sym (simp (takes-now, leader-place)))
+          ∙ set-tabulate 0 (length (r .costs)) (costBelow g m i r) (costBelow g m (i + 1) r) place inside (λ j b o. simp (elsewhere j o)))
+          (ap (set (rowsBelow g m i r .ways) place) (sym (simp (takes-now, leader-place)))
+          ∙ set-tabulate 0 (length (r .costs)) (wayBelow g m i r) (wayBelow g m (i + 1) r) place inside (λ j b o. simp (elsewhere j o)))
+          (ap (set (rowsBelow g m i r .waiting) place) (sym (simp (takes-now, still-waiting)))
+          ∙ set-tabulate 0 (length (r .costs)) (waitingBelow g m i r) (waitingBelow g m (i + 1) r) place inside (λ j b o. simp (elsewhere j o)))
 
-      taken-one : takenBelow g m k r + 1 ≡ takenBelow g m l r
+      taken-one : takenBelow g m i r + 1 ≡ takenBelow g m (i + 1) r
       unfolding takenBelow
       taken-one = sym
-          (howMany-more (length (r .costs)) (takesBelow g m k (r .costs)) (takesBelow g m l (r .costs)) place inside not-yet (λ i b o. elsewhere i o)
-          ∙ ap (λ (t : Bool). howMany (length (r .costs)) (takesBelow g m k (r .costs)) + one t) wins-now)
+          (howMany-more (length (r .costs)) (takesBelow g m i (r .costs)) (takesBelow g m (i + 1) (r .costs)) place inside not-yet (λ j b o. elsewhere j o)
+          ∙ ap (λ (t : Bool). howMany (length (r .costs)) (takesBelow g m i (r .costs)) + one t) takes-now)
 
-  -- the row takes the offer
-  taken-here : test ≡ true → (rowsWith place (m .cost + m .link + (g .words f - 1)) (256 * m .sender + f) (g .neighbours) (rowsBelow g m k r) ≡ rowsBelow g m l r)
-      × (takenBelow g m k r + 1 ≡ takenBelow g m l r)
-  unfolding offersTo
-  taken-here e =
-      let d = both (ltb 0 (g .words f)) (leb n (g .most) && wins (m .cost + m .link + (g .words f - 1)) (getD (rowsBelow g m k r .costs) place 0)) e in
-      let q = both (leb n (g .most)) (wins (m .cost + m .link + (g .words f - 1)) (getD (rowsBelow g m k r .costs) place 0)) (d .1) in
-      let low = leb-true n (g .most) (q .0) in
-      let lead = s .leads (ltb-true 0 (g .words f) (d .0)) low in
-      let now-wins = takes-now low lead ∙ q .1 in
-      (rows-set low lead now-wins, taken-one low lead now-wins)
+  -- ---- the offer does not win: every row takes what it took
+  left-alone : getD (rowsBelow g m i r .costs) (offerIn g m i .place) 0 ≤ offerIn g m i .cost → (j : ℕ)
+      → takesBelow g m i (r .costs) j ≡ takesBelow g m (i + 1) (r .costs) j
+  unfolding offer
+  left-alone high j = same-takes g m i (r .costs) j (λ t e.
+      let o = only g m i z within bounded (j % g .most + 1) (t .led) e in
+      let found = leader-found g m (j % g .most + 1) (t .led) in
+      let moves = led (g .p) (g .most) (leaderAt g m j) (j % g .most + 1) (m .number) (found .makes) .moves in
+      let has = subst (λ (y : ℕ). 0 < g .words y) (o .0) (found .has) in
+      let some : 1 ≤ n = omega (arith, o .1, moves .number) in
+      let low : n ≤ g .most = omega (arith, o .1, moves .within-most) in
+      let less : m .cost + m .link + (g .words f - 1) < getD (r .costs) place 0 =
+      subst (λ (x : ℕ). m .cost + m .link + (g .words f - 1) < getD (r .costs) x 0) (place-only (g .most) (m .destination) n j (t .there) (o .1))
+      (subst (λ (y : ℕ). m .cost + m .link + (g .words y - 1) < getD (r .costs) j 0) (o .0) (t .less)) in
+      let kept : getD (rowsBelow g m i r .costs) place 0 ≤ m .cost + m .link + (g .words f - 1) =
+      subst (λ (x : Offer). getD (rowsBelow g m i r .costs) (x .place) 0 ≤ x .cost) (offers has some low) high in
+      omega (arith, still has some low))
 
-  -- it does not: the gateway has no such function, or there is no such row, or the offer does not win
-  loses : test ≡ false → 0 < g .words f → n ≤ g .most → leader g m n ≡ f → wins (offer g m f) (getD (r .costs) place 0) ≡ false
-  unfolding offersTo offer
-  loses e has low lead =
-      ap (wins (m .cost + m .link + (g .words f - 1))) (sym (still low lead)) ∙ simp (lt-ltb 0 (g .words f) has, le-leb n (g .most) low) at e
+  pub idle : getD (rowsBelow g m i r .costs) (offerIn g m i .place) 0 ≤ offerIn g m i .cost
+      → (rowsBelow g m i r ≡ rowsBelow g m (i + 1) r) × (takenBelow g m i r ≡ takenBelow g m (i + 1) r)
+  idle high = (rows-same g m i r (left-alone high), taken-same g m i r (left-alone high))
 
-  left-alone : test ≡ false → (i : ℕ) → takesBelow g m k (r .costs) i ≡ takesBelow g m l (r .costs) i
-  left-alone e i = same-takes g m k l (r .costs) i (omega (arith, s .low, s .high)) go
-    where
-      go : i / g .most ≡ m .destination → k ≤ leaderAt g m i → leaderAt g m i < l → wins (offer g m (leaderAt g m i)) (getD (r .costs) i 0) ≡ false
-      go q a b =
-          let x = i % g .most + 1 in
-          let o = s .only x a b in
-          let found = leader-found g m x (omega (arith, s .within)) in
-          let low : n ≤ g .most = omega (arith, o .1, led (g .p) (g .most) (leader g m x) x (m .number) (found .makes) .moves .within-most) in
-          let has : 0 < g .words f = subst (λ (y : ℕ). 0 < g .words y) (o .0) (found .has) in
-          ap (λ (y : ℕ). wins (offer g m y) (getD (r .costs) i 0)) (o .0)
-          ∙ ap (λ (j : ℕ). wins (offer g m f) (getD (r .costs) j 0)) (place-only (g .most) (m .destination) n i q (o .1))
-          ∙ loses e has low (ap (leader g m) (sym (o .1)) ∙ o .0)
+  -- ---- the offer wins: so it is one, and its row takes it
+  abbrev Taken : Offer → Type 0
+  Taken o = (rowsWith o (g .neighbours) (rowsBelow g m i r) ≡ rowsBelow g m (i + 1) r) × (takenBelow g m i r + 1 ≡ takenBelow g m (i + 1) r)
 
-  abbrev next : Bool → Rows
-  next t = cond t (rowsWith place (m .cost + m .link + (g .words f - 1)) (256 * m .sender + f) (g .neighbours) (rowsBelow g m k r)) (rowsBelow g m k r)
+  none-wins : (ltb 0 (g .words f) && (leb 1 n && leb n (g .most))) ≡ false → offerIn g m i .cost ≡ 4294967295
+  unfolding offerOf
+  none-wins e = simp e
 
-  pub step : (next test ≡ rowsBelow g m l r) × (takenBelow g m k r + one test ≡ takenBelow g m l r)
-  step = bool-cases test
-      (λ e. (ap next e ∙ taken-here e .0, omega (arith, ap one e, taken-here e .1)))
-      (λ e. (ap next e ∙ rows-same g m k l r (λ i b. left-alone e i), omega (arith, ap one e, taken-same g m k l r (λ i b. left-alone e i))))
-
-long : (g : Gateway) (m : Message) (k : ℕ) (b r : Rows) (d : ℕ) → (d + 1) * g .most ≤ length (b .costs) → b ≡ rowsBelow g m k r → (d + 1) * g .most ≤ length (r .costs)
-unfolding rowsBelow
-long g m k b r d wide e = omega (arith, ap (λ (x : Rows). length (x .costs)) e, length-tabulate (length (r .costs)) (costBelow g m k r))
-
-pub goes-offered : (g : Gateway) (m : Message) (k l f n c : ℕ) (b a : Rows) → Step g m k l f n → (m .destination + 1) * g .most ≤ length (b .costs)
-    → Offered (g .most) (g .neighbours) m (g .words f) f n c b a → Goes g m k l c b a
-goes-offered g m k l f n c b a s wide o = record {
-  rows = λ r e. o .rows
-      ∙ ap (λ (x : Rows). cond (offersTo (g .most) m (g .words f) n (x .costs))
-      (rowsWith (placeOf (g .most) (m .destination) n) (m .cost + m .link + (g .words f - 1)) (256 * m .sender + f) (g .neighbours) x) x) e
-      ∙ step g m k l f n s r (long g m k b r (m .destination) wide e) .0;
-  counts = λ r e.
-      let t = ap (λ (x : Rows). one (offersTo (g .most) m (g .words f) n (x .costs))) e in
-      omega (arith, o .counted, t, step g m k l f n s r (long g m k b r (m .destination) wide e) .1);
-}
+  pub takes-it : offerIn g m i .cost < getD (rowsBelow g m i r .costs) (offerIn g m i .place) 0
+      → getD (rowsBelow g m i r .costs) (offerIn g m i .place) 0 < 4294967296 → Taken (offerIn g m i)
+  takes-it less fits = bool-cases (ltb 0 (g .words f) && (leb 1 n && leb n (g .most)))
+      (λ e.
+      let a = both (ltb 0 (g .words f)) (leb 1 n && leb n (g .most)) e in
+      let b = both (leb 1 n) (leb n (g .most)) (a .1) in
+      let has = ltb-true 0 (g .words f) (a .0) in
+      let some = leb-true 1 n (b .0) in
+      let low = leb-true n (g .most) (b .1) in
+      let is = offers has some low in
+      let won = subst (λ (x : Offer). x .cost < getD (rowsBelow g m i r .costs) (x .place) 0) is less in
+      subst Taken (sym is) (rows-set has some low won, taken-one has some low won))
+      (λ e. absurd (omega (arith, none-wins e)))

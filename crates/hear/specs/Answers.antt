@@ -5,7 +5,7 @@ use mathlib.Core.List.{List, []}
 use mathlib.Core.Bool.{Bool, cond, _&&_}
 use lib.ListN.{length, getD}
 use lib.Dec.{leb, ltb, eqb}
-use Rattle.stacks.specs.Functions.{kindOf, fromOf, toOf}
+use Rattle.functions.specs.Functions.{kindOf, fromOf, toOf}
 use Rattle.hear.specs.Hearing.{Gateway, Message, Rows, heard, taken}
 use Rattle.hear.specs.declared.Heard.{Heard}
 

@@ -6,9 +6,9 @@ use lib.ListN.{length, getD}
 use lib.Dec.{ltb, eqb}
 use Rattle.lists.specs.Lists.{tabulate, firstBelow, howMany}
 use Rattle.relax.specs.Graph.{wins}
-use Rattle.stacks.specs.Answers.{movedOf}
-use Rattle.stacks.specs.declared.After.{After}
-use Rattle.words.specs.Words.{withAll}
+use Rattle.functions.specs.Answers.{movedOf}
+use Rattle.functions.specs.declared.After.{After}
+use Rattle.bits.specs.Bits.{withAll}
 
 -- The hearing gateway: p protocols, how many stacks there are, the word of its neighbours, and for each function's number the word
 -- of that function: 0 where the gateway can't, v where it can at price v - 1.

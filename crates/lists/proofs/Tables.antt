@@ -3,11 +3,12 @@ use Prim.Native.Nat.{ℕ, zero, suc, _+_, _-_, _≤_, _<_}
 use native.Mathlib.Nat.{zero-add}
 use native.Mathlib.Decide.{ℕ-discrete, decLt}
 use native.Mathlib.Omega.{arith}
-use mathlib.Core.Path.{_≡_, refl, sym, ap, _∙_}
+use mathlib.Core.Path.{_≡_, refl, sym, ap, _∙_, subst}
 use mathlib.Core.Logic.{by-cases}
-use mathlib.Core.List.{List, [], _∷_, _++_}
+use mathlib.Core.List.{List, _++_}
 use lib.ListN.{length, getD, take, drop, set, length-set, length-take, length-drop, List·getD-append}
 use lib.Seq.{ext-getD, getD-set-same, getD-set-other, getD-take, getD-drop, getD-append-add, length-take-le}
+use borrow.Author.Count.{below-more}
 use borrow.Rule.Slice.PartMut.{midOf, putMid, same-len-mid}
 use Rattle.lists.specs.Lists.{tabulateFrom, tabulate}
 
@@ -52,6 +53,14 @@ set-tabulate d k f g j b same =
     (λ e. let in-list : j < length (tabulate k f) = omega (arith, length-tabulate k f) in
     ap (λ (x : ℕ). getD (set (tabulate k f) j (g j)) x d) e ∙ getD-set-same (tabulate k f) j (g j) d in-list ∙ ap g (sym e))
     (λ n. getD-set-other (tabulate k f) j i (g j) d n ∙ getD-tabulate k f i d low ∙ same i low n))
+
+-- a list that is filled from the front: what holds of each element below i, and of the one that is stored at i, holds below i + 1
+pub set-more : {A : Type 0} (P : ℕ → A → Type 0) (d : A) (l : List A) (i : ℕ) (v : A) → i < length l
+    → ((k : ℕ) → k < i → P k (getD l k d)) → P i v → (k : ℕ) → k < i + 1 → P k (getD (set l i v) k d)
+set-more P d l i v h all here =
+    below-more (λ (k : ℕ). P k (getD (set l i v) k d)) i
+    (λ k lt. subst (P k) (sym (getD-set-other l i k v d (λ (e : k ≡ i). omega arith))) (all k lt))
+    (subst (P i) (sym (getD-set-same l i v d h)) here)
 
 -- a part of k elements from a on
 pub mid-tabulate : {A : Type 0} (d : A) (r : ℕ) (f : ℕ → A) (a k : ℕ) → a + k ≤ r → midOf a k (tabulate r f) ≡ tabulate k (λ j. f (a + j))

@@ -40,3 +40,7 @@ one false = 0
 unfoldable pub howMany : ℕ → (ℕ → Bool) → ℕ
 howMany zero t = 0
 howMany (suc k) t = howMany k t + one (t k)
+
+-- the refusal where a test fails, and else what comes next
+abbrev pub unless : Bool → ℕ → ℕ → ℕ
+unless holds refusal next = cond holds next refusal

@@ -1,4 +1,4 @@
--- Places in the grids, and products of a network's numbers: none wraps. Each law is stated for any numbers in range, whatever they are numbers of.
+-- Places in the link grid, and products of a network's numbers: none wraps. Each law is stated for any numbers in range, whatever they are numbers of.
 use Prim.Native.Nat.{ℕ, _+_, _*_, _≤_, _<_}
 use native.Mathlib.Nat.{mul-le-mul}
 use native.Mathlib.Omega.{arith}
@@ -20,6 +20,9 @@ product-fits x y h l = omega (arith, product-bound x y 1024 78536544840 h l)
 pub place-fits : (x y z : ℕ) → x ≤ 1024 → y ≤ 1024 → z ≤ 1024 → Fits w64 (x * y + z)
 place-fits x y z h l k = omega (arith, product-bound x y 1024 1024 h l)
 
--- a row of the function grids, of which there are at most 96 for each of at most 8 protocols
-pub row-place : (x p a : ℕ) → x ≤ 95 → p ≤ 8 → a < p → x * p + a ≤ 767
-row-place x p a h few low = omega (arith, product-bound x p 95 8 h few)
+-- n nodes with s stacks each, and with a link to each node
+pub room-fits : (n s : ℕ) → n ≤ 32 → s ≤ 78536544840 → Fits w64 (n * s)
+room-fits n s few small = product-fits n s (omega arith) small
+
+pub links-fit : (n : ℕ) → n ≤ 32 → Fits w64 (n * n)
+links-fit n few = product-fits n n (omega arith) (omega arith)

@@ -1,27 +1,22 @@
--- What the crates above cite of a network: what one that is not refused meets, and what its links, functions and weights tell.
-use Prim.Native.Nat.{ℕ, _+_, _*_, _^_, _≤_, _<_}
+-- What the crates above cite of a network: what one that is not refused meets, and what its links tell.
+use Prim.Native.Nat.{ℕ, _*_, _^_, _≤_, _<_}
 use native.Mathlib.Decide.{decLt}
 use native.Mathlib.Omega.{arith}
 use mathlib.Core.Path.{_≡_, refl, sym, ap, _∙_}
-use mathlib.Core.Logic.{by-cases, ⊎-elim}
-use mathlib.Core.List.{List, []}
+use mathlib.Core.Logic.{by-cases}
 use mathlib.Core.Bool.{Bool, true, false, cond, _&&_, false≢true}
-use lib.ListN.{length, getD}
+use lib.ListN.{length}
 use lib.Dec.{leb, ltb, eqb}
 use lib.Pow.{pow-mono}
-use borrow.Author.Tests.{ltb-true, leb-true, eqb-true, lt-ltb, le-ltb, eq-eqb, ne-eqb}
-use Rattle.lists.specs.Lists.{tabulate, some}
-use Rattle.lists.proofs.Tables.{getD-tabulate}
-use Rattle.lists.proofs.Tests.{both, either, some-where}
+use borrow.Author.Tests.{leb-true, eqb-true, lt-ltb, le-ltb, eq-eqb, ne-eqb}
+use Rattle.lists.proofs.Tests.{both}
 use Rattle.stacks.specs.Stacks.{okSize}
-use Rattle.stacks.specs.Functions.{okFunction, kindOf, fromOf, toOf}
-use Rattle.stacks.proofs.Tests.{okFunction-yes}
-use Rattle.words.specs.Words.{has}
-use Rattle.words.proofs.Masks.{has-wordOf, wordOf-fits}
-use Rattle.network.specs.Network.{Network, stacks, linkAt, link, present, neighboursAt, neighbours, wordAt, can, price, weight, receivesAt, accepts, okSizes, okLinks, refusalOf}
-use Rattle.network.specs.Answers.{checkedOf, gridOf}
+use Rattle.bits.specs.Bits.{has}
+use Rattle.bits.proofs.Masks.{has-wordOf, wordOf-fits}
+use Rattle.network.specs.Network.{Network, stacks, linkAt, link, present, neighboursAt, neighbours, okSizes, okLinks, refusalOf}
+use Rattle.network.specs.Answers.{checkedOf}
 use Rattle.network.specs.declared.Checked.{Checked}
-use Rattle.network.proofs.Entries.{node-is, node-past, link-from-none, link-to-none, link-nodes, link-most, word-placed, word-most}
+use Rattle.network.proofs.Entries.{node-is, node-past, link-from-none, link-to-none, link-nodes}
 use Rattle.network.proofs.Links.{links-none, links-same}
 
 -- ---- a network that is not refused
@@ -119,7 +114,7 @@ module _ (net : Network) where
   pub refused-checked : (refusalOf net ≡ 0 → ⊥) → checkedOf net ≡ Checked.Refused (refusalOf net)
   refused-checked n = simp (ne-eqb (refusalOf net) 0 n)
 
--- ---- links, functions and weights
+-- ---- links
 module _ (net : Network) where
   pub present-nodes : (U W : ℕ) → present net U W ≡ true → (U < net .n) × (W < net .n) × (net .n ≤ 32)
   unfolding present
@@ -127,12 +122,6 @@ module _ (net : Network) where
       let t = link-nodes (net .n) (net .links) U W e in
       let u = node-is (net .n) U (t .0) in
       (u .0, node-is (net .n) W (t .1) .0, u .1)
-
-  pub can-function : (U f : ℕ) → can net U f ≡ true → (U < net .n) × (okFunction (net .p) f ≡ true)
-  unfolding can
-  can-function U f e =
-      let t = word-placed (net .n) (net .p) (net .functions) U (kindOf f) (fromOf f) (toOf f) e in
-      (node-is (net .n) U (t .node) .0, okFunction-yes (net .p) f (omega (arith, t .kinds)) (t .from) (t .to))
 
   pub has-neighbours : (U W : ℕ) → has (neighbours net U) W ≡ present net U W
   unfolding neighboursAt present
@@ -147,44 +136,3 @@ module _ (net : Network) where
   neighbours-fits U e =
       let few = valid net e .few in
       omega (arith, wordOf-fits (net .n) (λ X. ltb 0 (linkAt (net .n) (net .links) U X)), pow-mono few)
-
-  -- the place of a word of kind 0, 1 or 2 that is not 0
-  row-below : (D kind x : ℕ) → some (net .p) (λ b. ltb 0 (wordAt (net .n) (net .p) (net .functions) D kind x b)) ≡ true → (D < net .n) × (x < net .p)
-  row-below D kind x e =
-      let w = some-where (net .p) _ e in
-      let t = word-placed (net .n) (net .p) (net .functions) D kind x (w .0) (w .2) in
-      (node-is (net .n) D (t .node) .0, t .from)
-
-  column-below : (D kind x : ℕ) → some (net .p) (λ a. ltb 0 (wordAt (net .n) (net .p) (net .functions) D kind a x)) ≡ true → (D < net .n) × (x < net .p)
-  column-below D kind x e =
-      let w = some-where (net .p) _ e in
-      let t = word-placed (net .n) (net .p) (net .functions) D kind (w .0) x (w .2) in
-      (node-is (net .n) D (t .node) .0, t .to)
-
-  pub accepts-below : (D x : ℕ) → accepts net D x ≡ true → (D < net .n) × (x < net .p)
-  unfolding accepts receivesAt
-  accepts-below D x e = ⊎-elim
-      (λ h. row-below D 0 x h)
-      (λ h. ⊎-elim (λ g. row-below D 1 x g) (λ g. column-below D 2 x g) (either _ _ h))
-      (either _ _ e)
-
-  pub weight-most : (U f W : ℕ) → ((i : ℕ) → getD (net .links) i 0 < 65536) → ((i : ℕ) → getD (net .functions) i 0 < 65536) → weight net U f W ≤ 131069
-  unfolding weight price
-  weight-most U f W costs words =
-      omega (
-        arith,
-        link-most (net .n) (net .links) U W 65535 (omega (arith, costs (U * net .n + W))),
-        word-most (net .n) (net .p) (net .functions) U (kindOf f) (fromOf f) (toOf f) 65535
-            (omega (arith, words (((U * 3 + kindOf f) * net .p + fromOf f) * net .p + toOf f))),
-      )
-
-  pub weight-some : (U f W : ℕ) → present net U W ≡ true → 0 < weight net U f W
-  unfolding weight present
-  weight-some U f W e = omega (arith, ltb-true 0 (link net U W) e)
-
--- ---- the array of arrays
-pub grid-word : (n p : ℕ) (functions : List ℕ) (U kind a b : ℕ) → a < 8 → b < 8
-    → getD (getD (gridOf n p functions U kind) a []) b 0 ≡ wordAt n p functions U kind a b
-grid-word n p functions U kind a b la lb =
-    ap (λ (l : List ℕ). getD l b 0) (getD-tabulate 8 (λ i. tabulate 8 (λ j. wordAt n p functions U kind i j)) a [] la)
-    ∙ getD-tabulate 8 (λ j. wordAt n p functions U kind a j) b 0 lb

@@ -2,11 +2,11 @@
 use Prim.Native.Nat.{ℕ, _<_}
 use native.Mathlib.Decide.{decLt}
 use native.Mathlib.Omega.{arith}
-use mathlib.Core.Path.{_≡_, refl, sym, ap, ap₂, _∙_}
+use mathlib.Core.Path.{_≡_, refl, sym, ap₂}
 use mathlib.Core.Logic.{by-cases}
-use mathlib.Core.Bool.{Bool, true, false, cond, _&&_, not, false≢true, true≢false}
-use lib.Dec.{ltb, eqb}
-use borrow.Author.Tests.{eqb-true, le-ltb, lt-ltb, eq-eqb, ne-eqb}
+use mathlib.Core.Bool.{Bool, true, false, _&&_, not, Bool·beq, false≢true, true≢false}
+use lib.Dec.{eqb}
+use borrow.Author.Tests.{eqb-true, eq-eqb}
 use Rattle.lists.specs.Lists.{every}
 use Rattle.lists.proofs.Tests.{both, and-true, every-at, every-all}
 use Rattle.network.specs.Network.{Network, linkAt, present, okLinks}
@@ -30,31 +30,24 @@ one-way-none true false e d = absurd (false≢true e)
 one-way-none false true e d = absurd (false≢true d)
 one-way-none false false e d = refl
 
-is-zero : (x : ℕ) → eqb x 0 ≡ not (ltb 0 x)
-is-zero x = by-cases (decLt 0 x)
-    (λ h. ne-eqb x 0 (λ (z : x ≡ 0). omega arith) ∙ sym (ap not (lt-ltb 0 x h)))
-    (λ h. eq-eqb x 0 (omega arith) ∙ sym (ap not (le-ltb 0 x (omega arith))))
+same-beq : (x y : Bool) → x ≡ y → Bool·beq x y ≡ true
+same-beq true y e = rw (sym e) refl
+same-beq false y e = rw (sym e) refl
 
-cond-same : (x y : Bool) → cond x y (not y) ≡ true → x ≡ y
-cond-same true y e = sym e
-cond-same false true e = absurd (false≢true e)
-cond-same false false e = refl
-
-same-cond : (x y : Bool) → x ≡ y → cond x y (not y) ≡ true
-same-cond true y e = sym e
-same-cond false true e = absurd (false≢true e)
-same-cond false false e = refl
+beq-same : (x y : Bool) → Bool·beq x y ≡ true → x ≡ y
+beq-same true true e = refl
+beq-same true false e = absurd (false≢true e)
+beq-same false true e = absurd (false≢true e)
+beq-same false false e = refl
 
 module _ (net : Network) where
-  pair-is : (U W : ℕ) → pairAt (net .n) (net .links) U W ≡ cond (present net U W) (present net W U) (not (present net W U))
-  unfolding pairAt present
-  pair-is U W = ap (λ (t : Bool). cond (present net U W) (present net W U) t) (is-zero (linkAt (net .n) (net .links) W U))
-
   pair-same : (U W : ℕ) → pairAt (net .n) (net .links) U W ≡ true → present net U W ≡ present net W U
-  pair-same U W e = cond-same (present net U W) (present net W U) (sym (pair-is U W) ∙ e)
+  unfolding pairAt present
+  pair-same U W e = beq-same (present net U W) (present net W U) e
 
   same-pair : (U W : ℕ) → present net U W ≡ present net W U → pairAt (net .n) (net .links) U W ≡ true
-  same-pair U W e = pair-is U W ∙ same-cond (present net U W) (present net W U) e
+  unfolding pairAt present
+  same-pair U W e = same-beq (present net U W) (present net W U) e
 
   -- what the test of all links says of each pair of nodes
   pub links-none : okLinks net ≡ true → (U : ℕ) → U < net .n → linkAt (net .n) (net .links) U U ≡ 0

@@ -1,10 +1,11 @@
 -- What `check` answers at each of its tests, over plain variables.
 use Prim.Native.Nat.{ℕ, _*_, _≤_, _<_}
 use native.Mathlib.Omega.{arith}
-use mathlib.Core.Path.{_≡_, refl, _∙_, subst}
+use mathlib.Core.Path.{_≡_, _∙_, subst}
 use mathlib.Core.List.{[], _∷_}
-use mathlib.Core.Bool.{Bool, true, false, cond}
+use mathlib.Core.Bool.{true, false}
 use lib.ListN.{length}
+use lib.Dec.{eqb}
 use borrow.Author.Tests.{le-leb, lt-leb, eq-eqb, ne-eqb}
 use types.Run.{OneOf}
 use denote.Enum.Declared.{tagOf}
@@ -13,17 +14,26 @@ use Rattle.stacks.specs.Stacks.{okSize, count}
 use Rattle.stacks.specs.Answers.{countOf}
 use Rattle.stacks.specs.declared.Answer.{Answer}
 use Rattle.stacks.proofs.Answer.{the-type}
-use Rattle.network.specs.Network.{Network, stacks, okSizes, okLinks, refusalOf}
+use Rattle.stacks.proofs.Outcomes.{counted}
+use Rattle.stacks.proofs.Tests.{sizes}
+use Rattle.stacks.proofs.Count.{count-fits}
+use Rattle.network.specs.Network.{Network, okSizes, okLinks, refusalOf}
 use Rattle.network.specs.Answers.{checkedOf}
 use Rattle.network.specs.declared.Checked.{Checked}
 
 -- ---- how many stacks there are
-cond-value : (t : Bool) (x m : ℕ) → cond t (Answer.Value x) (Answer.Refused 4) ≡ Answer.Value m → (t ≡ true) × (x ≡ m)
-cond-value true x m e = (refl, (cc))
-cond-value false x m e = absurd (let z : _≡_ {A = ℕ} 0 1 = cc in omega arith)
+-- what the number m tells, where it is told
+pub record Counted (p h m : ℕ) : Type 0 where
+  pub size : okSize p h ≡ true
+  pub number : count p h ≡ m
+  pub low : p ≤ 8
+  pub small : m ≤ 78536544840
 
-pub counted : (p h m : ℕ) → countOf p h ≡ Answer.Value m → (okSize p h ≡ true) × (count p h ≡ m)
-counted p h m e = cond-value (okSize p h) (count p h) m e
+pub told-count : (p h m : ℕ) → countOf p h ≡ Answer.Value m → Counted p h m
+told-count p h m e =
+    let t = counted p h m e in
+    let z = sizes p h (t .0) in
+    record { size = t .0; number = t .1; low = z .few; small = omega (arith, t .1, count-fits p h (z .few) (z .low)) }
 
 -- an answer that is no number
 pub not-counted : (p h : ℕ) (r : Answer) → r ≡ countOf p h → OneOf (1 ∷ []) (tagOf the-type r) → okSize p h ≡ false
@@ -55,12 +65,12 @@ module _ (net : Network) where
       unfolding okSizes
       bad-size bad = refused (simp (le-leb 1 (net .n) some, le-leb (net .n) 32 few, bad))
 
-      module _ (size : okSize (net .p) (net .h) ≡ true) where
-        pub no-room : 16384 < net .n * stacks net → Checked.Refused 1 ≡ checkedOf net
+      module _ (m : ℕ) (told : Counted (net .p) (net .h) m) where
+        pub no-room : 16384 < net .n * m → Checked.Refused 1 ≡ checkedOf net
         unfolding okSizes
-        no-room more = refused (simp (le-leb 1 (net .n) some, le-leb (net .n) 32 few, size, lt-leb (net .n * stacks net) 16384 more))
+        no-room more = refused (simp (le-leb 1 (net .n) some, le-leb (net .n) 32 few, told .size, told .number, lt-leb (net .n * m) 16384 more))
 
-        module _ (room : net .n * stacks net ≤ 16384) where
+        module _ (room : net .n * m ≤ 16384) where
           pub links-short : (length (net .links) ≡ net .n * net .n → ⊥) → Checked.Refused 1 ≡ checkedOf net
           unfolding okSizes
           links-short short =
@@ -68,42 +78,37 @@ module _ (net : Network) where
               (simp (
                 le-leb 1 (net .n) some,
                 le-leb (net .n) 32 few,
-                size,
-                le-leb (net .n * stacks net) 16384 room,
+                told .size,
+                told .number,
+                le-leb (net .n * m) 16384 room,
                 ne-eqb (length (net .links)) (net .n * net .n) short,
               ))
 
           module _ (long : length (net .links) ≡ net .n * net .n) where
-            pub functions-short : (length (net .functions) ≡ net .n * (3 * (net .p * net .p)) → ⊥) → Checked.Refused 1 ≡ checkedOf net
+            -- what is left of the test of the sizes: how many words the function grids have
+            sizes-left : okSizes net ≡ eqb (length (net .functions)) (net .n * (3 * (net .p * net .p)))
             unfolding okSizes
-            functions-short short =
-                refused
-                (simp (
+            sizes-left =
+                simp (
                   le-leb 1 (net .n) some,
                   le-leb (net .n) 32 few,
-                  size,
-                  le-leb (net .n * stacks net) 16384 room,
+                  told .size,
+                  told .number,
+                  le-leb (net .n * m) 16384 room,
                   eq-eqb (length (net .links)) (net .n * net .n) long,
-                  ne-eqb (length (net .functions)) (net .n * (3 * (net .p * net .p))) short,
-                ))
+                )
+
+            pub functions-short : (length (net .functions) ≡ net .n * (3 * (net .p * net .p)) → ⊥) → Checked.Refused 1 ≡ checkedOf net
+            functions-short short = refused (sizes-left ∙ ne-eqb (length (net .functions)) (net .n * (3 * (net .p * net .p))) short)
 
             module _ (full : length (net .functions) ≡ net .n * (3 * (net .p * net .p))) where
               sizes-good : okSizes net ≡ true
-              unfolding okSizes
-              sizes-good =
-                  simp (
-                    le-leb 1 (net .n) some,
-                    le-leb (net .n) 32 few,
-                    size,
-                    le-leb (net .n * stacks net) 16384 room,
-                    eq-eqb (length (net .links)) (net .n * net .n) long,
-                    eq-eqb (length (net .functions)) (net .n * (3 * (net .p * net .p))) full,
-                  )
+              sizes-good = sizes-left ∙ eq-eqb (length (net .functions)) (net .n * (3 * (net .p * net .p))) full
 
               pub bad-links : okLinks net ≡ false → Checked.Refused 2 ≡ checkedOf net
               unfolding refusalOf
               bad-links bad = simp (sizes-good, bad)
 
-              pub all-good : okLinks net ≡ true → Checked.Stacks (stacks net) ≡ checkedOf net
+              pub all-good : okLinks net ≡ true → Checked.Stacks m ≡ checkedOf net
               unfolding refusalOf
-              all-good good = simp (sizes-good, good)
+              all-good good = simp (sizes-good, good, told .number)

@@ -1,19 +1,16 @@
--- What a turn of each loop adds: to the neighbours' word, to a row of links, and to a row of a table that is filled.
+-- What a turn of each loop adds: to the neighbours' word, and to a row of links.
 use Prim.Native.Nat.{ℕ, zero, suc, _+_, _≤_, _<_}
 use native.Mathlib.Numerals.{add-one}
 use native.Mathlib.Omega.{arith}
-use mathlib.Core.Path.{_≡_, refl, sym, ap, _∙_, subst}
+use mathlib.Core.Path.{_≡_, refl, sym, ap, ap₂, _∙_}
 use mathlib.Core.List.{List}
-use mathlib.Core.Bool.{Bool, true, false, and-false}
-use lib.ListN.{length, getD, set}
-use lib.Seq.{getD-set-same, getD-set-other}
+use mathlib.Core.Bool.{Bool, true, false, Bool·beq, and-false}
 use lib.Dec.{ltb, eqb}
-use borrow.Author.Count.{below-more}
 use borrow.Author.Tests.{ne-eqb, eq-eqb}
 use Rattle.lists.specs.Lists.{every}
 use Rattle.lists.proofs.Tests.{and-true, every-all, every-not}
-use Rattle.words.specs.Words.{wordOf}
-use Rattle.words.proofs.Masks.{wordOf-step, wordOf-skip}
+use Rattle.bits.specs.Bits.{wordOf}
+use Rattle.bits.proofs.Masks.{wordOf-step, wordOf-skip}
 use Rattle.network.specs.Network.{linkAt, neighboursAt}
 use Rattle.network.specs.Steps.{withLink, pairAt, rowAt}
 use Rattle.network.proofs.Entries.{node-many, link-from-none}
@@ -30,14 +27,20 @@ unfolding neighboursAt
 neighbours-many n links U many =
     wordOf-none n (λ W. ltb 0 (linkAt n links U W)) (λ W. ap (λ (x : ℕ). ltb 0 x) (link-from-none n links U W (node-many n U many)))
 
-pub one-more : (n : ℕ) (links : List ℕ) (U W word : ℕ) → W < 32 → word ≡ wordOf W (λ X. ltb 0 (linkAt n links U X))
-    → withLink n links U W word ≡ wordOf (W + 1) (λ X. ltb 0 (linkAt n links U X))
+pub one-more : (n : ℕ) (links : List ℕ) (U W word next : ℕ) → W < 32 → word ≡ wordOf W (λ X. ltb 0 (linkAt n links U X))
+    → next ≡ withLink n links U W word → next ≡ wordOf (W + 1) (λ X. ltb 0 (linkAt n links U X))
 unfolding withLink
-one-more n links U W word few e =
-    ap (λ (w : ℕ). withLink n links U W w) e
+one-more n links U W word next few e told =
+    told
+    ∙ ap (λ (w : ℕ). withLink n links U W w) e
     ∙ sym (ap (λ (k : ℕ). wordOf k (λ X. ltb 0 (linkAt n links U X))) (add-one W) ∙ wordOf-step W (λ X. ltb 0 (linkAt n links U X)) few)
 
 -- ---- a row of links
+pub pair-told : (n : ℕ) (links : List ℕ) (U W x y : ℕ) → x ≡ linkAt n links U W → y ≡ linkAt n links W U
+    → Bool·beq (ltb 0 x) (ltb 0 y) ≡ pairAt n links U W
+unfolding pairAt
+pair-told n links U W x y there back = ap₂ (λ (v w : ℕ). Bool·beq (ltb 0 v) (ltb 0 w)) there back
+
 module _ (n : ℕ) (links : List ℕ) (U : ℕ) where
   pub row-loop : 0 < linkAt n links U U → rowAt n links U ≡ false
   unfolding rowAt
@@ -51,11 +54,3 @@ module _ (n : ℕ) (links : List ℕ) (U : ℕ) where
   unfolding rowAt
   row-good none all =
       and-true (eqb (linkAt n links U U) 0) (every U (λ X. pairAt n links U X)) (eq-eqb (linkAt n links U U) 0 (omega arith)) (every-all U (λ X. pairAt n links U X) all)
-
--- ---- a table that is filled from the front: what holds of each element below i, and of the one that is stored at i, holds below i + 1
-pub set-more : {A : Type 0} (P : ℕ → A → Type 0) (d : A) (l : List A) (i : ℕ) (v : A) → i < length l
-    → ((k : ℕ) → k < i → P k (getD l k d)) → P i v → (k : ℕ) → k < i + 1 → P k (getD (set l i v) k d)
-set-more P d l i v h all here =
-    below-more (λ (k : ℕ). P k (getD (set l i v) k d)) i
-    (λ k lt. subst (P k) (sym (getD-set-other l i k v d (λ (e : k ≡ i). omega arith))) (all k lt))
-    (subst (P i) (sym (getD-set-same l i v d h)) here)

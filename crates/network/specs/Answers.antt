@@ -1,10 +1,8 @@
--- What the crate's public functions answer: these are the contracts. (Those that answer a number or a test cite specs/Network.antt itself.)
+-- What the crate's public functions answer: these are the contracts. (Those that answer a number cite specs/Network.antt itself.)
 use Prim.Native.Nat.{ℕ}
-use mathlib.Core.List.{List}
 use mathlib.Core.Bool.{cond}
 use lib.Dec.{eqb}
-use Rattle.lists.specs.Lists.{tabulate}
-use Rattle.network.specs.Network.{Network, stacks, wordAt, refusalOf}
+use Rattle.network.specs.Network.{Network, stacks, refusalOf}
 use Rattle.network.specs.declared.Checked.{Checked}
 
 -- check: how many stacks a network has, or its refusal
@@ -19,7 +17,3 @@ checkedRefusal (Checked.Refused r) = r
 abbrev pub checkedStacks : Checked → ℕ
 checkedStacks (Checked.Stacks s) = s
 checkedStacks (Checked.Refused r) = 0
-
--- grid: one node's words of one kind, row a and column b; 0 outside the p protocols
-abbrev pub gridOf : ℕ → ℕ → List ℕ → ℕ → ℕ → List (List ℕ)
-gridOf n p functions U kind = tabulate 8 (λ a. tabulate 8 (λ b. wordAt n p functions U kind a b))

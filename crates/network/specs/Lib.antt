@@ -2,3 +2,4 @@
 pub mod Network
 pub mod Answers
 pub mod Steps
+pub mod SmallNetwork

@@ -9,10 +9,12 @@ use Rattle.lists.proofs.Tests.{bool-cases}
 use Rattle.relax.proofs.Sound.{later-falls}
 use Rattle.relax.proofs.Ceiling.{below-noRow}
 use Rattle.stacks.specs.Stacks.{okStack, number, stackOf}
-use Rattle.stacks.specs.Functions.{apply, becomes}
-use Rattle.stacks.proofs.Laws.{leads, stack-in-range, stack-of-number, number-of-stack}
-use Rattle.network.specs.Network.{Network, weight}
+use Rattle.stacks.proofs.Laws.{stack-in-range, stack-of-number, number-of-stack}
+use Rattle.functions.specs.Functions.{apply, becomes}
+use Rattle.functions.proofs.Laws.{leads}
+use Rattle.network.specs.Network.{Network}
 use Rattle.network.proofs.Laws.{valid}
+use Rattle.gateways.specs.Gateways.{weight}
 use Rattle.table.specs.Table.{Table, noRow, home, vertex}
 use Rattle.table.proofs.Rows.{Stack}
 use Rattle.forward.specs.Forward.{costOf, nextOf, functionOf, resultOf}

@@ -4,16 +4,20 @@ use Prim.Native.Nat.{ℕ}
 use mathlib.Core.Path.{_≡_, sym, _∙_}
 use mathlib.Core.List.{List}
 use mathlib.Core.Bool.{Bool}
-use Rattle.stacks.specs.Answers.{countOf, numberOf, heightOf, outOf, movedOf, appliedOf, inverseOf}
+use lib.ListN.{getD}
+use Rattle.stacks.specs.Answers.{countOf, numberOf, heightOf, outOf}
 use Rattle.stacks.specs.declared.Answer.{Answer}
-use Rattle.stacks.specs.declared.After.{After}
-use Rattle.headers.specs.Answers as headers
-use Rattle.headers.specs.declared.Read.{Read}
+use Rattle.functions.specs.Answers.{movedOf, appliedOf, inverseOf}
+use Rattle.functions.specs.declared.After.{After}
+use Rattle.bits.specs.Bits as bits
 use Rattle.words.specs.Words as words
 use Rattle.words.specs.declared.Found.{Found}
-use Rattle.network.specs.Network.{Network, linkAt, neighboursAt, wordAt, receivesAt}
-use Rattle.network.specs.Answers.{checkedOf, gridOf}
+use Rattle.headers.specs.Answers as headers
+use Rattle.headers.specs.declared.Read.{Read}
+use Rattle.network.specs.Network.{Network, linkAt, neighboursAt}
+use Rattle.network.specs.Answers.{checkedOf}
 use Rattle.network.specs.declared.Checked.{Checked}
+use Rattle.gateways.specs.Gateways.{wordAt, receivesAt, gridOf}
 use Rattle.hear.specs.Hearing.{Gateway, Message, Rows}
 use Rattle.hear.specs.Answers.{Hears}
 use Rattle.table.specs.Table.{Table}
@@ -22,6 +26,7 @@ use Rattle.table.specs.Run.{Runs, runOf}
 use Rattle.table.specs.declared.Counted.{Counted}
 use Rattle.table.specs.declared.First.{First}
 use Rattle.table.specs.declared.Delivered.{Delivered}
+use Rattle.step.specs.Step.{Steps}
 use Rattle.forward.specs.Answers.{Carries, lookupOf, carryOf}
 use Rattle.forward.specs.declared.Look.{Look}
 
@@ -62,24 +67,24 @@ inverse-of p f = one (inverseOf p f)
 pub read-stack : (h : ℕ) (packet out : List ℕ) → OneBoth (λ (r : Read) (after : List ℕ). (r ≡ headers.readOf h packet out) × (after ≡ headers.outOf h packet out))
 read-stack h packet out = both (headers.readOf h packet out) (headers.outOf h packet out)
 
--- ---- words
-pub has : (word v : ℕ) → One (λ (r : Bool). r ≡ words.has word v)
-has word v = one (words.has word v)
+-- ---- bits and words
+pub has : (word v : ℕ) → One (λ (r : Bool). r ≡ bits.has word v)
+has word v = one (bits.has word v)
 
-pub without : (word v : ℕ) → One (λ (r : ℕ). r ≡ words.without word v)
-without word v = one (words.without word v)
+pub without : (word v : ℕ) → One (λ (r : ℕ). r ≡ bits.without word v)
+without word v = one (bits.without word v)
 
-pub with-all : (word more : ℕ) → One (λ (r : ℕ). r ≡ words.withAll word more)
-with-all word more = one (words.withAll word more)
+pub with-all : (word more : ℕ) → One (λ (r : ℕ). r ≡ bits.withAll word more)
+with-all word more = one (bits.withAll word more)
 
-pub with-one : (word v : ℕ) → One (λ (r : ℕ). r ≡ words.withOne word v)
-with-one word v = one (words.withOne word v)
+pub with-one : (word v : ℕ) → One (λ (r : ℕ). r ≡ bits.withOne word v)
+with-one word v = one (bits.withOne word v)
 
-pub lowest : (word : ℕ) → One (λ (r : ℕ). r ≡ words.lowest word)
-lowest word = one (words.lowest word)
+pub lowest : (word : ℕ) → One (λ (r : ℕ). r ≡ bits.lowest word)
+lowest word = one (bits.lowest word)
 
-pub ones : (word : ℕ) → One (λ (r : ℕ). r ≡ words.onesOf word)
-ones word = one (words.onesOf word)
+pub ones : (word : ℕ) → One (λ (r : ℕ). r ≡ bits.onesOf word)
+ones word = one (bits.onesOf word)
 
 pub ones-in : (list : List ℕ) → One (λ (r : ℕ). r ≡ words.countOf list)
 ones-in list = one (words.countOf list)
@@ -88,12 +93,19 @@ pub first-in : (list : List ℕ) (from to : ℕ) → One (λ (r : Found). r ≡ 
 first-in list from to = one (words.firstBetween from to list)
 
 -- ---- network
+pub entry : (list : List ℕ) (at : ℕ) → One (λ (r : ℕ). r ≡ getD list at 0)
+entry list at = one (getD list at 0)
+
 pub link-cost : (n : ℕ) (links : List ℕ) (u w : ℕ) → One (λ (r : ℕ). r ≡ linkAt n links u w)
 link-cost n links u w = one (linkAt n links u w)
 
 pub neighbours : (n : ℕ) (links : List ℕ) (node : ℕ) → One (λ (r : ℕ). r ≡ neighboursAt n links node)
 neighbours n links node = one (neighboursAt n links node)
 
+pub check : (net : Network) → One (λ (r : Checked). r ≡ checkedOf net)
+check net = one (checkedOf net)
+
+-- ---- gateways
 pub word-at : (n p : ℕ) (functions : List ℕ) (node kind a b : ℕ) → One (λ (r : ℕ). r ≡ wordAt n p functions node kind a b)
 word-at n p functions node kind a b = one (wordAt n p functions node kind a b)
 
@@ -102,9 +114,6 @@ grid n p functions node kind = one (gridOf n p functions node kind)
 
 pub accepts : (n p : ℕ) (functions : List ℕ) (node x : ℕ) → One (λ (r : Bool). r ≡ receivesAt n p functions node x)
 accepts n p functions node x = one (receivesAt n p functions node x)
-
-pub check : (net : Network) → One (λ (r : Checked). r ≡ checkedOf net)
-check net = one (checkedOf net)
 
 -- ---- hear
 pub hear : (g : Gateway) (m : Message) (rows : Rows) → OneBoth (Hears g m rows)
@@ -116,6 +125,10 @@ hear g m rows x y u v p q = (
     waiting = (p .waiting ∙ sym (q .waiting)) i;
   },
 )
+
+-- ---- step
+pub step : (n : ℕ) (g : Gateway) (link : ℕ) (t : Table) (Q U D N : ℕ) → OneBoth (Steps n g link t Q U D N)
+step n g link t Q U D N x y u v p q = (p .answers ∙ sym (q .answers), p .table ∙ sym (q .table))
 
 -- ---- table
 pub ready : (net : Network) (costs ways waits : ℕ) → One (λ (r : Checked). r ≡ readyOf net costs ways waits)

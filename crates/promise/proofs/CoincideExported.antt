@@ -2,7 +2,8 @@
 use Prim.Native.Nat.{ℕ}
 use mathlib.Core.Path.{_≡_, sym, _∙_}
 use mathlib.Core.List.{List}
-use Rattle.stacks.specs.Answers.{countOf, numberOf, heightOf, outOf, appliedOf, inverseOf}
+use Rattle.stacks.specs.Answers.{countOf, numberOf, heightOf, outOf}
+use Rattle.functions.specs.Answers.{appliedOf, inverseOf}
 use Rattle.network.specs.Network.{Network}
 use Rattle.table.specs.Table.{Table}
 use Rattle.table.specs.Answers.{freshAnswer, freshTable, countAnswer, firstAnswer, deliverAnswer, deliverTable}
@@ -11,10 +12,21 @@ use Rattle.table.specs.declared.Ran.{Ran}
 use Rattle.forward.specs.Answers.{lookupOf, carryOf}
 use Rattle.tally.specs.Tally.{addedTo, afterDelivery, afterRun}
 use Rattle.tally.specs.declared.Tally.{Tally}
-use Rattle.exports.specs.Packing.{packCounted, packFirst, packDelivered, packAnswer, packAfter, packLook}
-use Rattle.exports.specs.Run.{RunExported}
-use Rattle.exports.specs.Four.{FourExported, carryFour, ReadExported}
+use Rattle.packing.specs.Packing.{packRefused, packEnd}
+use Rattle.stack_exports.specs.Packing.{packAnswer, packAfter}
+use Rattle.table_exports.specs.Packing.{packCounted, packFirst}
+use Rattle.deliver_exports.specs.Packing.{packDelivered}
+use Rattle.deliver_exports.specs.Run.{RunExported}
+use Rattle.packet_exports.specs.Packing.{packLook}
+use Rattle.packet_exports.specs.Four.{FourExported, carryFour, ReadExported}
 use Rattle.promise.proofs.Coincide.{One, OneBoth, one, both}
+
+-- ---- packing
+pub packed-refused : (refusal : ℕ) → One (λ (r : ℕ). r ≡ packRefused refusal)
+packed-refused refusal = one (packRefused refusal)
+
+pub packed-end : (refusal : ℕ) → One (λ (r : ℕ). r ≡ packEnd refusal)
+packed-end refusal = one (packEnd refusal)
 
 -- ---- stacks
 pub stack-count : (p h : ℕ) → One (λ (r : ℕ). r ≡ packAnswer (countOf p h))

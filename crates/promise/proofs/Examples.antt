@@ -3,12 +3,14 @@ use mathlib.Core.Path.{refl}
 use Rattle.lists.specs.Lists.{tabulate, every, some, firstBelow, howMany}
 use Rattle.relax.specs.Graph.{wins}
 use Rattle.stacks.specs.Stacks.{okSize, okNumber, okStack}
-use Rattle.stacks.specs.Functions.{okFunction}
-use Rattle.stacks.specs.Answers.{okMove}
-use Rattle.words.specs.Words.{has, without, withAll, wordOf, lowest, onesBelow, onesOf, onesIn, firstFrom, firstIn}
-use Rattle.network.specs.Network.{isNode, linkAt, present, neighboursAt, wordAt, can, price, weight, receivesAt, accepts, okSizes, okLinks, refusalOf}
+use Rattle.functions.specs.Functions.{okFunction}
+use Rattle.functions.specs.Answers.{okMove}
+use Rattle.bits.specs.Bits.{has, without, withAll, wordOf, lowest, onesOf}
+use Rattle.words.specs.Words.{onesIn, firstFrom, firstIn}
+use Rattle.network.specs.Network.{isNode, linkAt, present, neighboursAt, okSizes, okLinks, refusalOf}
+use Rattle.gateways.specs.Gateways.{wordAt, can, price, weight, receivesAt, accepts}
 use Rattle.hear.specs.Hearing.{leadsBy, leader, offer, takes, costAt, wayAt, waitingAt, heard, taken}
-use Rattle.table.specs.Table.{fresh, home, rowsOf, withRows, cleared, delivered, offersTaken}
+use Rattle.table.specs.Table.{fresh, home, rowsIn, withRowsIn, clearedAt, delivered, offersTaken}
 use Rattle.table.specs.Answers.{okLengths, refusal, okMessage, waits, okSender, stepRefusal, deliverRefusal, deliverTable}
 use Rattle.table.specs.Run.{runOf}
 use Rattle.forward.specs.Forward.{okRow, lookAt}
@@ -16,7 +18,7 @@ use Rattle.forward.specs.Answers.{okPacket, carryOf}
 use Rattle.promise.specs.Examples.{Examples}
 
 pub examples : Examples
-unfolding tabulate every some firstBelow howMany wins okSize okNumber okStack okFunction okMove has without withAll wordOf lowest onesBelow onesOf onesIn firstFrom firstIn isNode linkAt present neighboursAt wordAt receivesAt accepts okSizes okLinks refusalOf can price weight leadsBy leader offer takes costAt wayAt waitingAt heard taken fresh home rowsOf withRows cleared delivered offersTaken okLengths refusal okMessage waits okSender stepRefusal deliverRefusal deliverTable runOf okRow lookAt okPacket carryOf
+unfolding tabulate every some firstBelow howMany wins okSize okNumber okStack okFunction okMove has without withAll wordOf lowest onesOf onesIn firstFrom firstIn isNode linkAt present neighboursAt wordAt receivesAt accepts okSizes okLinks refusalOf can price weight leadsBy leader offer takes costAt wayAt waitingAt heard taken fresh home rowsIn withRowsIn clearedAt delivered offersTaken okLengths refusal okMessage waits okSender stepRefusal deliverRefusal deliverTable runOf okRow lookAt okPacket carryOf
 examples = record {
   P1 = (refl, refl);
   P2 = (refl, refl);

@@ -1,5 +1,5 @@
 -- The waiting words of a table that can come to be have 32 bits, and a search that finds none finds that no message waits.
-use Prim.Native.Nat.{ℕ, zero, suc, _+_, _^_, _<_}
+use Prim.Native.Nat.{ℕ, suc, _+_, _^_, _<_}
 use native.Mathlib.Decide.{ℕ-discrete}
 use native.Mathlib.Omega.{arith}
 use mathlib.Core.Path.{_≡_, refl, sym, ap, _∙_, subst}
@@ -10,33 +10,29 @@ use lib.ListN.{getD}
 use lib.Dec.{eqb}
 use borrow.Author.Tests.{eqb-true}
 use Rattle.lists.proofs.Tables.{getD-tabulate}
-use Rattle.words.specs.Words.{lowest, without, onesBelow, onesOf, onesIn, firstFrom, firstIn}
+use Rattle.bits.specs.Bits.{lowest, without, onesOf}
+use Rattle.bits.proofs.Counts.{ones-zero}
+use Rattle.bits.proofs.Laws.{without-fits, withAll-fits}
+use Rattle.words.specs.Words.{onesIn, firstFrom, firstIn}
 use Rattle.words.specs.declared.Found.{Found}
-use Rattle.words.proofs.Bits.{bit-of-zero}
-use Rattle.words.proofs.Laws.{without-fits, withAll-fits}
 use Rattle.network.specs.Network.{Network, neighbours, refusalOf}
 use Rattle.network.proofs.Laws.{neighbours-fits}
 use Rattle.table.specs.Table.{Table, Sized, rowsAll, place, nodeAt, destinationAt, numberAt, homeAt, fresh, cleared, delivered}
 use Rattle.table.specs.Answers.{stepRefusal}
 use Rattle.table.proofs.Rows.{of-place, is-row}
-use Rattle.deliver.proofs.Deliveries.{goes, took, waiting-there, waiting-here, cleared-row, kept-row}
+use Rattle.table.proofs.Deliveries.{goes, took, waiting-there, waiting-here, cleared-row, kept-row}
 use Rattle.promise.specs.Routes.{Reached, begun, delivery}
 use Rattle.promise.proofs.Reaching.{delivery-cases, sized}
 
 -- ---- a word without bits, and a list of such words
-none-below : (k : ℕ) → onesBelow k 0 ≡ 0
-unfolding onesBelow
-none-below zero = refl
-none-below (suc k) = omega (arith, none-below k, bit-of-zero k)
-
 none-found : (i : ℕ) (ws : List ℕ) → firstFrom i ws ≡ Found.Nowhere → onesIn ws ≡ 0
-unfolding firstFrom onesIn onesOf
+unfolding firstFrom onesIn
 none-found i [] e = refl
 none-found i (w ∷ ws) e = go (eqb w 0) refl (none-found (suc i) ws) e
   where
     go : (b : Bool) → eqb w 0 ≡ b → (firstFrom (suc i) ws ≡ Found.Nowhere → onesIn ws ≡ 0)
         → cond b (firstFrom (suc i) ws) (Found.At i (lowest w)) ≡ Found.Nowhere → onesOf w + onesIn ws ≡ 0
-    go true z rest d = omega (arith, rest d, ap onesOf (eqb-true w 0 z), none-below 32)
+    go true z rest d = omega (arith, rest d, ap onesOf (eqb-true w 0 z), ones-zero)
     go false z rest d = absurd (let z : _≡_ {A = ℕ} 0 1 = cc in omega arith)
 
 pub nowhere-quiet : (ws : List ℕ) → firstIn ws ≡ Found.Nowhere → onesIn ws ≡ 0

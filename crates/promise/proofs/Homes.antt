@@ -10,8 +10,10 @@ use Rattle.lists.proofs.Tests.{both}
 use Rattle.stacks.specs.Stacks.{okStack, number, stackOf}
 use Rattle.stacks.proofs.Laws.{stack-of-number}
 use Rattle.stacks.proofs.Tests.{sizes, good-ok}
-use Rattle.network.specs.Network.{Network, accepts}
-use Rattle.network.proofs.Laws.{valid, accepts-below}
+use Rattle.network.specs.Network.{Network}
+use Rattle.network.proofs.Laws.{valid}
+use Rattle.gateways.specs.Gateways.{accepts}
+use Rattle.gateways.proofs.Laws.{accepts-below}
 use Rattle.table.specs.Table.{home}
 use Rattle.promise.specs.Routes.{Network16}
 

@@ -10,12 +10,14 @@ use borrow.Author.Tests.{lt-ltb, le-leb}
 use Rattle.relax.specs.Journeys.{Hop}
 use Rattle.relax.proofs.Sound.{sound}
 use Rattle.relax.proofs.Ceiling as theory
-use Rattle.stacks.specs.Answers.{appliedOf}
-use Rattle.stacks.specs.declared.After.{After}
-use Rattle.stacks.proofs.Laws.{leads}
 use Rattle.stacks.proofs.Tests.{within}
-use Rattle.network.specs.Network.{Network, present, can, weight}
-use Rattle.network.proofs.Laws.{valid, present-nodes, weight-some}
+use Rattle.functions.specs.Answers.{appliedOf}
+use Rattle.functions.specs.declared.After.{After}
+use Rattle.functions.proofs.Laws.{leads}
+use Rattle.network.specs.Network.{Network, present}
+use Rattle.network.proofs.Laws.{valid, present-nodes}
+use Rattle.gateways.specs.Gateways.{can, weight}
+use Rattle.gateways.proofs.Laws.{weight-some}
 use Rattle.table.specs.Table.{Table, noRow, ceiling, rowsEach, place, home, vertex}
 use Rattle.table.proofs.Rows.{Stack, vertex-node, vertex-number, vertex-below}
 use Rattle.forward.specs.Forward.{costOf, nextOf, functionOf, resultOf, okRow}

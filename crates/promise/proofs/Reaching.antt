@@ -15,7 +15,7 @@ use Rattle.table.specs.Answers.{okLengths, refusal, freshTable, stepRefusal, de
 use Rattle.bridge.specs.Bridge.{graphOf, stateOf, Bridged}
 use Rattle.bridge.proofs.Beginning.{fresh-sized}
 use Rattle.bridge.proofs.Theorems.{bridged}
-use Rattle.deliver.proofs.Deliveries.{goes, delivered-sized}
+use Rattle.table.proofs.Deliveries.{goes, delivered-sized}
 use Rattle.promise.specs.Routes.{Network16, Reached, Later, begun, now, delivery}
 
 -- ---- a delivery goes through, or leaves the table as it is

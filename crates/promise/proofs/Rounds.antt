@@ -1,6 +1,6 @@
 -- Runs from a table that can come to be: none is refused, one that stops before its limit leaves no message waiting, and runs in a row are one run.
 -- A call's limit has 32 bits, and what `settles` asks for is more: so `rounds-settle` says it of several calls.
-use Prim.Native.Nat.{ℕ, zero, suc, _+_, _*_, _<_}
+use Prim.Native.Nat.{ℕ, zero, suc, _+_, _<_}
 use native.Mathlib.Omega.{arith}
 use mathlib.Core.Path.{_≡_, refl, sym, ap, _∙_, subst}
 use mathlib.Core.List.{List, [], _∷_}

@@ -8,12 +8,15 @@ use lib.Dec.{ltb}
 use Rattle.lists.proofs.Tests.{both}
 use Rattle.relax.specs.Journeys as theory
 use Rattle.stacks.specs.Stacks.{okStack, number, stackOf}
-use Rattle.stacks.specs.Functions.{apply, becomes}
-use Rattle.stacks.specs.Answers.{appliedOf}
-use Rattle.stacks.specs.declared.After.{After}
-use Rattle.stacks.proofs.Laws.{leads, leading, number-in-range, stack-in-range, stack-of-number, stays-a-stack}
-use Rattle.network.specs.Network.{Network, present, can, weight}
-use Rattle.network.proofs.Laws.{valid, can-function, accepts-below, weight-some}
+use Rattle.stacks.proofs.Laws.{number-in-range, stack-in-range, stack-of-number}
+use Rattle.functions.specs.Functions.{apply, becomes}
+use Rattle.functions.specs.Answers.{appliedOf}
+use Rattle.functions.specs.declared.After.{After}
+use Rattle.functions.proofs.Laws.{leads, leading, stays-a-stack}
+use Rattle.network.specs.Network.{Network, present}
+use Rattle.network.proofs.Laws.{valid}
+use Rattle.gateways.specs.Gateways.{can, weight}
+use Rattle.gateways.proofs.Laws.{can-function, accepts-below, weight-some}
 use Rattle.table.specs.Table.{rowsEach, home, vertex, nodeOf, numberOf}
 use Rattle.table.proofs.Rows.{vertex-node, vertex-number}
 use Rattle.bridge.specs.Bridge.{homeOf, weightOf, graphOf}

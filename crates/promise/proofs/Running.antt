@@ -9,10 +9,11 @@ use borrow.Author.Tests.{eqb-true, eq-eqb, lt-ltb, le-leb}
 use Rattle.relax.specs.Journeys.{Waits}
 use Rattle.relax.proofs.Ends as theory
 use Rattle.stacks.proofs.Tests.{okNumber-yes}
-use Rattle.words.specs.Words.{has, firstIn}
+use Rattle.bits.specs.Bits.{has}
+use Rattle.bits.proofs.LowestBit.{lowest-has}
+use Rattle.words.specs.Words.{firstIn}
 use Rattle.words.specs.declared.Found.{Found}
 use Rattle.words.proofs.Answers.{Here, first-at, first-whole}
-use Rattle.words.proofs.LowestBit.{lowest-has}
 use Rattle.network.specs.Network.{Network, present}
 use Rattle.network.proofs.Laws.{valid, present-nodes}
 use Rattle.table.specs.Table.{Table, ceiling, rowsAll, place, nodeAt, destinationAt, numberAt, vertex, delivered, offersTaken}

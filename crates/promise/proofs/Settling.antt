@@ -18,7 +18,7 @@ use Rattle.network.specs.Network.{Network}
 use Rattle.table.specs.Table.{Table, rowsEach, nodeAt, destinationAt, numberAt, fresh, delivered}
 use Rattle.table.specs.Answers.{refusal, stepRefusal, deliverRefusal}
 use Rattle.table.specs.Run.{Outcome, turn, steps, runOf}
-use Rattle.deliver.proofs.Deliveries.{goes}
+use Rattle.table.proofs.Deliveries.{goes}
 use Rattle.bridge.specs.Bridge.{graphOf, stateOf}
 use Rattle.promise.specs.Routes.{Network16, Reached, Done, begun, delivery, mostDeliveries, Quiet}
 use Rattle.promise.proofs.Reaching.{sized, bridge, reached, reached-refusal}

@@ -1,8 +1,8 @@
 -- Once no message waits: a count of 0 says that no bit is set, and so the theory's state is quiet.
 use Prim.Native.Nat.{ℕ, zero, suc, _<_}
-use native.Mathlib.Decide.{ℕ-discrete, decLt}
+use native.Mathlib.Decide.{decLt}
 use native.Mathlib.Omega.{arith}
-use mathlib.Core.Path.{_≡_, ap, _∙_}
+use mathlib.Core.Path.{_≡_, _∙_}
 use mathlib.Core.Logic.{by-cases}
 use mathlib.Core.List.{List, [], _∷_}
 use mathlib.Core.Bool.{true, false}
@@ -10,8 +10,10 @@ use lib.ListN.{getD}
 use Rattle.lists.proofs.Tests.{bool-cases}
 use Rattle.relax.specs.Journeys.{Quiet}
 use Rattle.relax.proofs.Ends.{waits}
-use Rattle.words.specs.Words.{bit, has, onesBelow, onesOf, onesIn}
-use Rattle.words.proofs.Laws.{has-of-zero, has-zero}
+use Rattle.bits.specs.Bits.{has}
+use Rattle.bits.proofs.Laws.{has-zero}
+use Rattle.bits.proofs.Counts.{ones-none}
+use Rattle.words.specs.Words.{onesIn}
 use Rattle.network.specs.Network.{Network}
 use Rattle.network.proofs.Laws.{valid, present-nodes}
 use Rattle.table.specs.Table.{Table, rowsEach, nodeOf}
@@ -21,23 +23,11 @@ use Rattle.promise.specs.Routes.{Network16, Reached}
 use Rattle.promise.specs.Routes as routes
 use Rattle.promise.proofs.Reaching.{bridge, reached}
 
--- no bit of a word
-below-none : (k w : ℕ) → onesBelow k w ≡ 0 → (v : ℕ) → v < k → bit w v ≡ 0
-unfolding onesBelow
-below-none zero w e v b = absurd (omega arith)
-below-none (suc k) w e v b = by-cases (ℕ-discrete v k)
-    (λ q. ap (bit w) q ∙ omega arith)
-    (λ n. below-none k w (omega arith) v (omega arith))
-
-word-none : (w : ℕ) → onesOf w ≡ 0 → (v : ℕ) → v < 32 → has w v ≡ false
-unfolding onesOf
-word-none w e v b = has-of-zero w v (below-none 32 w e v b)
-
 -- no bit of any word
 pub words-none : (ws : List ℕ) → onesIn ws ≡ 0 → (i v : ℕ) → v < 32 → has (getD ws i 0) v ≡ false
 unfolding onesIn
 words-none [] e i v b = has-zero v
-words-none (w ∷ ws) e zero v b = word-none w (omega arith) v b
+words-none (w ∷ ws) e zero v b = ones-none w (omega arith) v b
 words-none (w ∷ ws) e (suc i) v b = words-none ws (omega arith) i v b
 
 module _ (net : Network) (ok : Network16 net) (D : ℕ) (d : D < net .n) (t : Table) (r : Reached net t) (q : routes.Quiet net t) where

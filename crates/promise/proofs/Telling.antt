@@ -11,12 +11,15 @@ use borrow.Author.Tests.{eq-eqb}
 use Rattle.lists.proofs.Tests.{bool-cases}
 use Rattle.stacks.specs.Stacks.{number}
 use Rattle.stacks.proofs.Laws.{stack-of-number}
-use Rattle.words.specs.Words.{lowest, firstIn}
+use Rattle.bits.specs.Bits.{lowest}
+use Rattle.bits.proofs.LowestBit.{lowest-has, lowest-below}
+use Rattle.words.specs.Words.{firstIn}
 use Rattle.words.specs.declared.Found.{Found}
 use Rattle.words.proofs.Answers.{Here, first-at, first-whole}
-use Rattle.words.proofs.LowestBit.{lowest-has, lowest-below}
-use Rattle.network.specs.Network.{Network, accepts}
-use Rattle.network.proofs.Laws.{valid, accepts-below, present-nodes}
+use Rattle.network.specs.Network.{Network}
+use Rattle.network.proofs.Laws.{valid, present-nodes}
+use Rattle.gateways.specs.Gateways.{accepts}
+use Rattle.gateways.proofs.Laws.{accepts-below}
 use Rattle.table.specs.Table.{Table, noRow, home}
 use Rattle.table.specs.Answers.{refusal, firstOf, firstAnswer}
 use Rattle.table.specs.declared.First.{First}

@@ -10,15 +10,16 @@ use lib.Dec.{ltb, eqb}
 use borrow.Author.Tests.{ltb-true}
 use Rattle.lists.proofs.Tests.{bool-cases, both}
 use Rattle.relax.specs.Graph.{wins}
-use Rattle.stacks.specs.Answers.{appliedOf, numberAfter}
-use Rattle.stacks.specs.declared.After.{After}
-use Rattle.network.specs.Network.{Network, present, can}
+use Rattle.functions.specs.Answers.{appliedOf, numberAfter}
+use Rattle.functions.specs.declared.After.{After}
+use Rattle.network.specs.Network.{Network, present}
 use Rattle.network.proofs.Laws.{valid}
+use Rattle.gateways.specs.Gateways.{can}
 use Rattle.hear.specs.Hearing.{leader}
 use Rattle.table.specs.Table.{Table, Sized, noRow, place, home, gateway, fresh, delivered}
 use Rattle.table.specs.Answers.{stepRefusal}
 use Rattle.table.proofs.Rows.{Stack}
-use Rattle.deliver.proofs.Deliveries.{Goes, goes, told, leaderOf, offerTo, took, changes, stays}
+use Rattle.table.proofs.Deliveries.{Goes, goes, told, leaderOf, offerTo, took, changes, stays}
 use Rattle.bridge.specs.Bridge.{about}
 use Rattle.bridge.proofs.Beginning.{fresh-cost}
 use Rattle.bridge.proofs.Hops.{By, leader-about, leader-by}

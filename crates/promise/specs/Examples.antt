@@ -1,12 +1,12 @@
--- THE EXAMPLES P1 to P12 of the specification, one table: protocols a = 0 and b = 1. proofs/Examples.antt computes them.
-use Prim.Native.Nat.{ℕ, _+_, _*_}
+-- THE EXAMPLES P1 to P12 of the specification, one table, over its small network. proofs/Examples.antt computes them.
+use Prim.Native.Nat.{ℕ}
 use mathlib.Core.Path.{_≡_}
-use mathlib.Core.List.{List, [], _∷_}
+use mathlib.Core.List.{[], _∷_}
 use lib.ListN.{getD}
 use Rattle.stacks.specs.Stacks.{number, count}
-use Rattle.stacks.specs.Functions.{apply, cannot}
+use Rattle.functions.specs.Functions.{apply, cannot}
 use Rattle.words.specs.Words.{onesIn}
-use Rattle.network.specs.Network.{Network, networkOf}
+use Rattle.network.specs.SmallNetwork.{a, b, wrap-a-in-b, smallnet}
 use Rattle.table.specs.Table.{Table, place, fresh}
 use Rattle.table.specs.Answers.{deliverAnswer, deliverTable}
 use Rattle.table.specs.Run.{runOf}
@@ -14,30 +14,6 @@ use Rattle.table.specs.declared.Delivered.{Delivered}
 use Rattle.forward.specs.Forward.{Journey}
 use Rattle.forward.specs.Answers.{lookupOf, carryOf}
 use Rattle.forward.specs.declared.Look.{Look}
-
-abbrev pub a : ℕ
-a = 0
-
-abbrev pub b : ℕ
-b = 1
-
-abbrev pub wrap-a-in-b : ℕ
-wrap-a-in-b = 64 + 8 * a + b
-
--- 0 to 1 costs 2, back 7; 1 to 2 costs 3, back 3; 2 to 3 costs 1, back 4
-abbrev pub links : List ℕ
-links = 0 ∷ 2 ∷ 0 ∷ 0 ∷ 7 ∷ 0 ∷ 3 ∷ 0 ∷ 0 ∷ 3 ∷ 0 ∷ 1 ∷ 0 ∷ 0 ∷ 4 ∷ 0 ∷ []
-
--- node 0 converts a to a at price 0, node 1 wraps a in b at price 5, node 2 unwraps a from b at price 1, node 3 is as node 0
-abbrev pub functions : List ℕ
-functions =
-    1 ∷ 0 ∷ 0 ∷ 0 ∷ 0 ∷ 0 ∷ 0 ∷ 0 ∷ 0 ∷ 0 ∷ 0 ∷ 0
-    ∷ 0 ∷ 0 ∷ 0 ∷ 0 ∷ 0 ∷ 6 ∷ 0 ∷ 0 ∷ 0 ∷ 0 ∷ 0 ∷ 0
-    ∷ 0 ∷ 0 ∷ 0 ∷ 0 ∷ 0 ∷ 0 ∷ 0 ∷ 0 ∷ 0 ∷ 2 ∷ 0 ∷ 0
-    ∷ 1 ∷ 0 ∷ 0 ∷ 0 ∷ 0 ∷ 0 ∷ 0 ∷ 0 ∷ 0 ∷ 0 ∷ 0 ∷ 0 ∷ []
-
-abbrev pub smallnet : Network
-smallnet = networkOf 4 2 2 links functions
 
 -- after the delivery from 3 to 2 about (3, a), and once no message waits
 abbrev pub heard : Table

@@ -5,7 +5,8 @@ use mathlib.Core.Logic.{_≢_, _↔_, _⊎_}
 use mathlib.Core.List.{List, [], _∷_}
 use mathlib.Core.Bool.{true}
 use lib.ListN.{getD}
-use Rattle.network.specs.Network.{Network, stacks, accepts}
+use Rattle.network.specs.Network.{Network, stacks}
+use Rattle.gateways.specs.Gateways.{accepts}
 use Rattle.table.specs.Table.{Table, noRow, ceiling, place}
 use Rattle.table.specs.Answers.{refusal, freshTable, firstAnswer, okMessage, waits, stepRefusal}
 use Rattle.table.specs.Run.{runOf}

@@ -1,12 +1,13 @@
 -- What the promises speak of: routes, tables that can come to be, and packets that are carried on. In the words of the specification.
-use Prim.Native.Nat.{ℕ, suc, _+_, _-_, _*_, _≤_, _<_}
+use Prim.Native.Nat.{ℕ, suc, _+_, _-_, _*_, _≤_}
 use mathlib.Core.Path.{_≡_}
 use mathlib.Core.List.{List, [], _∷_}
 use mathlib.Core.Bool.{true}
 use Rattle.stacks.specs.Stacks.{okStack, number}
-use Rattle.stacks.specs.Functions.{apply, becomes}
+use Rattle.functions.specs.Functions.{apply, becomes}
 use Rattle.words.specs.Words.{onesIn}
-use Rattle.network.specs.Network.{Network, Numbers16, refusalOf, present, can, weight, accepts}
+use Rattle.network.specs.Network.{Network, Numbers16, refusalOf, present}
+use Rattle.gateways.specs.Gateways.{can, weight, accepts}
 use Rattle.table.specs.Table.{Table, noRow, rowsEach, fresh}
 use Rattle.table.specs.Answers.{deliverRefusal, deliverTable}
 use Rattle.table.specs.Run.{runOf}

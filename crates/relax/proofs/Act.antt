@@ -6,9 +6,9 @@ use mathlib.Core.Logic.{_⊎_, inl, inr, ⊎-elim, by-cases, ite, if-pos, if-neg
 use mathlib.Core.Bool.{Bool, true, false, cond, _||_, or-false, or-true}
 use native.Mathlib.Omega.{arith}
 use native.Mathlib.Decide.{decLt}
+use Rattle.lists.proofs.Tests.{bool-cases}
 use Rattle.relax.specs.Graph.{Graph, Lawful, State, noRow, cleared, Fresh, Deliver, Step, deliver, Reach, more, Later, now, after}
 use Rattle.relax.specs.Journeys.{Quiet, Route, measure}
-use Rattle.relax.proofs.Sum.{bool-cases}
 use Rattle.relax.proofs.Laws.{takes?, reach-later}
 use Rattle.relax.proofs.Optimal.{cheapest}
 use Rattle.relax.proofs.Ends.{measure-falls, waits, priced-below}

@@ -9,9 +9,10 @@ use native.Mathlib.Nat.{le-refl, mul-le-mul-right}
 use native.Mathlib.Decide.{ℕ-discrete}
 use lib.Dec.{leb}
 use borrow.Author.Tests.{leb-true, le-leb, lt-leb}
+use Rattle.lists.proofs.Tests.{bool-cases}
 use Rattle.relax.specs.Graph.{Graph, Lawful, State, noRow, ceilingOf, Fresh, Takes, Deliver, Reach}
 use Rattle.relax.specs.Journeys.{sum, bit}
-use Rattle.relax.proofs.Sum.{sum-le, sum-lt, sum-most, bit-one, bit-le, bit-lt, bool-cases}
+use Rattle.relax.proofs.Sum.{sum-le, sum-lt, sum-most, bit-one, bit-le, bit-lt}
 use Rattle.relax.proofs.Laws.{takes-below, takes?, always}
 use Rattle.relax.proofs.Sound.{cost-falls}
 

@@ -6,9 +6,10 @@ use mathlib.Core.Bool.{true, false, true≢false}
 use native.Mathlib.Omega.{arith}
 use native.Mathlib.Nat.{mul-le-mul-right}
 use native.Mathlib.Decide.{decLt}
+use Rattle.lists.proofs.Tests.{bool-cases}
 use Rattle.relax.specs.Graph.{Graph, Lawful, State, noRow, cleared, Fresh, Takes, Deliver, Reach, fresh}
 use Rattle.relax.specs.Journeys.{sum, bit, messages, measure, bound, Waits, Run, rest, one, idle}
-use Rattle.relax.proofs.Sum.{sum-le, sum-lt, sum-most, bit-one, bit-le, bit-lt, bool-cases}
+use Rattle.relax.proofs.Sum.{sum-le, sum-lt, sum-most, bit-one, bit-le, bit-lt}
 use Rattle.relax.proofs.Laws.{same-path, takes-below, takes?, heard-here, run-reach, always}
 use Rattle.relax.proofs.Sound.{cost-falls, sound}
 use Rattle.relax.proofs.Ceiling.{below-noRow}

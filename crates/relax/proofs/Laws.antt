@@ -2,14 +2,14 @@
 -- No other file opens `wins` or `cleared`: whoever changes a test has these laws to prove again, and nothing else.
 use Prim.Native.Nat.{ℕ, _+_, _≤_, _<_}
 use mathlib.Core.Path.{_≡_, refl, sym, _∙_, subst}
-use mathlib.Core.Bool.{Bool, true, false, _&&_, true≢false}
+use mathlib.Core.Bool.{true, false, true≢false}
 use native.Mathlib.Omega.{arith}
 use native.Mathlib.Decide.{ℕ-discrete, decLt}
 use lib.Dec.{eqb}
 use borrow.Author.Tests.{ltb-true, ltb-false, leb-true, leb-false, eqb-true, eq-eqb}
+use Rattle.lists.proofs.Tests.{bool-cases, both, and-true}
 use Rattle.relax.specs.Graph.{Graph, State, wins, cleared, Same, Fresh, Takes, Deliver, deliver, stutter, Reach, fresh, more, Later, now, after}
 use Rattle.relax.specs.Journeys.{Run, rest, one, idle}
-use Rattle.relax.proofs.Sum.{bool-cases}
 
 -- ---- the two tests
 -- an offer that wins is strictly below
@@ -26,31 +26,18 @@ loses-above offer cost e = omega (arith, leb-false, ltb-false)
 pub below-wins : (offer cost : ℕ) → offer < cost → wins offer cost ≡ true
 below-wins offer cost h = bool-cases (wins offer cost) (λ e. e) (λ e. absurd (omega (arith, loses-above offer cost e)))
 
--- two tests that pass together pass each, and the other way round
-both-left : (a b : Bool) → (a && b) ≡ true → a ≡ true
-both-left true b e = refl
-both-left false b e = e
-
-both-right : (a b : Bool) → (a && b) ≡ true → b ≡ true
-both-right true b e = e
-both-right false b e = absurd (true≢false (sym e))
-
-both : (a b : Bool) → a ≡ true → b ≡ true → (a && b) ≡ true
-both true b h k = k
-both false b h k = h
-
 -- whatever is cleared is the delivered message
 pub cleared-only : (x U v Q : ℕ) → cleared x U v Q ≡ true → (v ≡ x) × (Q ≡ U)
 unfolding cleared
 cleared-only x U v Q e =
-    let first = both-left (eqb v x) _ e in
-    let second = both-right (eqb v x) _ e in
+    let first = both (eqb v x) _ e .0 in
+    let second = both (eqb v x) _ e .1 in
     (omega (arith, eqb-true, ltb-true), omega (arith, eqb-true, ltb-true))
 
 -- and that is cleared
 pub cleared-here : (x U : ℕ) → cleared x U x U ≡ true
 unfolding cleared
-cleared-here x U = both _ _ (eq-eqb x x refl) (eq-eqb U U refl)
+cleared-here x U = and-true _ _ (eq-eqb x x refl) (eq-eqb U U refl)
 
 -- ---- states
 -- states that agree at every place are equal, so that a stutter keeps whatever holds

@@ -5,9 +5,9 @@ use mathlib.Core.Logic.{_≢_, _↔_, _⊎_, inl, inr, ⊎-elim, by-cases}
 use mathlib.Core.Bool.{true, true≢false}
 use native.Mathlib.Omega.{arith}
 use native.Mathlib.Decide.{ℕ-discrete}
+use Rattle.lists.proofs.Tests.{bool-cases}
 use Rattle.relax.specs.Graph.{Graph, Lawful, State, noRow, wins, cleared, Fresh, Takes, Deliver, Reach}
 use Rattle.relax.specs.Journeys.{Quiet, Route, here, via}
-use Rattle.relax.proofs.Sum.{bool-cases}
 use Rattle.relax.proofs.Laws.{loses-above, cleared-only, takes-below, takes?, always}
 use Rattle.relax.proofs.Sound.{cost-falls, sound}
 use Rattle.relax.proofs.Ceiling.{below-noRow, offer-fits}

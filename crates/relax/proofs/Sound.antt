@@ -5,9 +5,9 @@ use mathlib.Core.Logic.{_≢_, _⊎_, inl, inr, ⊎-elim, by-cases}
 use mathlib.Core.Bool.{true}
 use native.Mathlib.Omega.{arith}
 use native.Mathlib.Nat.{le-refl, le-trans}
+use Rattle.lists.proofs.Tests.{bool-cases}
 use Rattle.relax.specs.Graph.{Graph, State, noRow, Fresh, Takes, Deliver, Step, deliver, stutter, Reach, Later, now, after}
 use Rattle.relax.specs.Journeys.{Hop, Sound}
-use Rattle.relax.proofs.Sum.{bool-cases}
 use Rattle.relax.proofs.Laws.{takes-below, takes-other, takes?, always}
 
 module _ (g : Graph) where

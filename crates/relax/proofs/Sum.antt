@@ -47,8 +47,3 @@ pub bit-lt : (p q : Bool) → p ≡ false → q ≡ true → bit p < bit q
 bit-lt true q a b = absurd (true≢false a)
 bit-lt false true a b = omega arith
 bit-lt false false a b = absurd (false≢true b)
-
--- by cases on a test, with the equation
-pub bool-cases : {C : Type 0} (b : Bool) → (b ≡ true → C) → (b ≡ false → C) → C
-bool-cases true f h = f refl
-bool-cases false f h = h refl

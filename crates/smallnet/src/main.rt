@@ -162,7 +162,7 @@ fn main() {
         &mut way,
         &mut waiting,
     );
-    deliver::run(
+    run::run(
         4,
         2,
         2,

@@ -29,6 +29,9 @@ count-fits p h few low = le-trans (count-small p h few) (count-mono 8 h 12 low)
 pub step-fits : (p n i q : ℕ) → n ≤ count p i → q < p → p * n + q + 1 ≤ count p (i + 1)
 step-fits p n i q h small = rw (add-one i) (omega (arith, count-suc p i, mul-le-mul-left p h))
 
+pub next-fits : (p n i q : ℕ) → p ≤ 8 → i < 12 → n ≤ count p i → q < p → p * n + q + 1 ≤ 78536544840
+next-fits p n i q few low le small = le-trans (step-fits p n i q le small) (count-fits p (i + 1) few (omega arith))
+
 -- protocols have numbers of stacks of height 1
 pub count-some : (p h : ℕ) → 1 ≤ h → p ≤ count p h
 count-some p zero high = absurd (omega arith)

@@ -4,10 +4,7 @@ pub mod Count
 pub mod Scan
 pub mod Refusals
 pub mod Heights
-pub mod Numbers
-pub mod Moves
 pub mod Outcomes
-pub mod Back
-pub mod Between
+pub mod Numbers
 pub mod Laws
 pub mod Examples

@@ -1,18 +1,19 @@
 -- A stack and its number determine each other. The proofs go over the stack with its top first, where the number and the stack of a number
 -- are plain recursions: `num` and `tops`.
-use Prim.Native.Nat.{ℕ, zero, suc, _+_, _-_, _*_, _/_, _%_, _^_, _≤_, _<_, zero-le}
-use native.Mathlib.Nat.{mul-zero, mul-suc, mul-comm, mul-le-mul-left, le-refl, le-trans, div-add-mod, div-lt-iff-lt-mul, mul-add-mod-self-left, mod-eq-of-lt, mul-add-div, div-eq-of-lt, add-zero, mod-lt, sub-zero}
+use Prim.Native.Nat.{ℕ, zero, suc, _+_, _-_, _*_, _/_, _%_, _≤_, _<_, zero-le}
+use native.Mathlib.Nat.{mul-suc, mul-comm, mul-le-mul-left, le-trans, div-add-mod, div-lt-iff-lt-mul, mul-add-mod-self-left, mod-eq-of-lt, mul-add-div, div-eq-of-lt, add-zero, mod-lt}
 use native.Mathlib.Numerals.{add-one}
 use native.Mathlib.Omega.{arith}
 use mathlib.Core.Path.{_≡_, refl, sym, ap, _∙_}
-use mathlib.Core.List.{List, [], _∷_, _++_, reverse, reverseAux, reverseAux-eq, reverse-reverse}
-use mathlib.Core.Bool.{Bool, true, false, cond, _&&_, false≢true, and-assoc, and-comm}
+use mathlib.Core.List.{List, [], _∷_, _++_, reverse, reverseAux, reverse-reverse}
+use mathlib.Core.Bool.{Bool, true, false, _&&_, and-assoc, and-comm}
 use mathlib.Core.Logic.{_↔_}
-use lib.ListN.{length, length-reverse, length-reverseAux}
-use lib.Dec.{leb, ltb, eqb}
-use borrow.Author.Tests.{leb-true, leb-false, ltb-true, eqb-true, lt-ltb, le-ltb, le-leb, lt-leb}
+use lib.ListN.{length, length-reverse}
+use lib.Dec.{leb, ltb}
+use borrow.Author.Tests.{leb-true, leb-false, ltb-true, lt-ltb, le-leb, lt-leb}
+use Rattle.lists.proofs.Tests.{both}
 use Rattle.stacks.specs.Stacks.{okStack, okNumber, count, height, stackUnder, stackOf, below, numberFrom, number, top, rest}
-use Rattle.stacks.proofs.Tests.{both, Good, good, good-ok, Within, within, okNumber-yes}
+use Rattle.stacks.proofs.Tests.{good, good-ok, within, okNumber-yes}
 use Rattle.stacks.proofs.Count.{count-suc, count-mono}
 use Rattle.stacks.proofs.Heights.{height-le, height-some}
 

@@ -1,32 +1,23 @@
--- From an equation of outcomes or answers back to the tests that led to it.
+-- From an answer back to the test that led to it.
 use Prim.Native.Nat.{ℕ}
 use native.Mathlib.Omega.{arith}
-use mathlib.Core.Path.{_≡_, refl, sym, ap, _∙_}
-use mathlib.Core.List.{List, reverse, reverse-reverse}
+use mathlib.Core.Path.{_≡_, refl}
 use mathlib.Core.Bool.{Bool, true, false, cond}
-use Rattle.stacks.specs.Stacks.{number}
-use Rattle.stacks.specs.Functions.{Outcome, becomes, cannot, turned}
-use Rattle.stacks.specs.Answers.{answer}
-use Rattle.stacks.specs.declared.After.{After}
-use Rattle.stacks.specs.declared.After.the-variants.{Number, NotApplicable, Refused}
+use Rattle.stacks.specs.Stacks.{okSize, count}
+use Rattle.stacks.specs.Answers.{countOf}
+use Rattle.stacks.specs.declared.Answer.the-variants.{Value, Refused}
 
-pub cond-becomes : (c : Bool) (x t : List ℕ) → cond c (becomes x) cannot ≡ becomes t → (c ≡ true) × (x ≡ t)
-cond-becomes true x t e = (refl, (cc))
-cond-becomes false x t e = absurd (let z : _≡_ {A = ℕ} 0 1 = cc in omega arith)
+pub cond-value : (b : Bool) (x n : ℕ) → cond b (Value x) (Refused 4) ≡ Value n → (b ≡ true) × (x ≡ n)
+cond-value true x n e = (refl, (cc))
+cond-value false x n e = absurd (let z : _≡_ {A = ℕ} 0 1 = cc in omega arith)
 
-pub cannot-becomes : (t : List ℕ) → cannot ≡ becomes t → ⊥
-cannot-becomes t e = let z : _≡_ {A = ℕ} 0 1 = cc in omega arith
+pub cond-refused : (b : Bool) (x r : ℕ) → cond b (Value x) (Refused 4) ≡ Refused r → (b ≡ false) × (4 ≡ r)
+cond-refused true x r e = absurd (let z : _≡_ {A = ℕ} 0 1 = cc in omega arith)
+cond-refused false x r e = (refl, (cc))
 
-pub turned-becomes : (o : Outcome) (t : List ℕ) → turned o ≡ becomes t → o ≡ becomes (reverse t)
-turned-becomes (becomes s) t e =
-    let i : reverse s ≡ t = cc in
-    ap becomes (sym (reverse-reverse s) ∙ ap reverse i)
-turned-becomes cannot t e = absurd (cannot-becomes t e)
+-- of how many stacks there are
+pub counted : (p h m : ℕ) → countOf p h ≡ Value m → (okSize p h ≡ true) × (count p h ≡ m)
+counted p h m e = cond-value (okSize p h) (count p h) m e
 
-pub cond-number : (c : Bool) (x : After) (m : ℕ) → cond c x (Refused 4) ≡ Number m → (c ≡ true) × (x ≡ Number m)
-cond-number true x m e = (refl, e)
-cond-number false x m e = absurd (let z : _≡_ {A = ℕ} 0 1 = cc in omega arith)
-
-pub answer-number : (p : ℕ) (o : Outcome) (m : ℕ) → answer p o ≡ Number m → (t : List ℕ) × (o ≡ becomes t) × (number p t ≡ m)
-answer-number p (becomes t) m e = (t, refl, (cc))
-answer-number p cannot m e = absurd (let z : _≡_ {A = ℕ} 0 1 = cc in omega arith)
+pub uncounted : (p h r : ℕ) → countOf p h ≡ Refused r → (okSize p h ≡ false) × (4 ≡ r)
+uncounted p h r e = cond-refused (okSize p h) (count p h) r e

@@ -1,15 +1,15 @@
 -- What `stack_of` and `number_of` answer at each test, over plain variables.
 use Prim.Native.Nat.{ℕ, _≤_, _<_}
-use mathlib.Core.Path.{_≡_, sym, _∙_}
-use mathlib.Core.List.{List}
+use native.Mathlib.Omega.{arith}
+use mathlib.Core.Path.{_≡_, ap, _∙_}
+use mathlib.Core.List.{List, _++_}
 use mathlib.Core.Bool.{true, false}
-use lib.ListN.{length}
+use lib.ListN.{length, drop}
 use borrow.Author.Tests.{le-leb, lt-leb}
-use Rattle.stacks.specs.Stacks.{okSize, okStack, okNumber, count, height}
+use Rattle.stacks.specs.Stacks.{okSize, okStack, okNumber, count, height, stackOf}
 use Rattle.stacks.specs.Answers.{okOut, heightOf, outOf, numberOf}
 use Rattle.stacks.specs.Steps.{scan}
-use Rattle.stacks.specs.declared.Answer.{Answer}
-use Rattle.stacks.specs.declared.Answer.the-variants.{Refused}
+use Rattle.stacks.specs.declared.Answer.the-variants.{Value, Refused}
 use Rattle.stacks.proofs.Scan.{scan-is}
 
 -- a refusal, and the buffer as it was
@@ -37,9 +37,13 @@ module _ (p h n : ℕ) (out : List ℕ) where
     unfolding okOut okNumber
     no-room some most short = kept p h n out (simp (size, le-leb 1 n some, le-leb n (count p h) most, lt-leb (height p h n) (length out) short))
 
-    pub room : 1 ≤ n → n ≤ count p h → height p h n ≤ length out → okOut p h n out ≡ true
+    -- the stack in the buffer's front, where it has room
+    pub written : {high : ℕ} {left : List ℕ} → 1 ≤ n → n ≤ count p h → high ≡ height p h n → high ≤ length out → left ≡ stackOf p h n ++ drop high out
+        → (Value high ≡ heightOf p h n out) × (left ≡ outOf p h n out)
     unfolding okOut okNumber
-    room some most long = simp (size, le-leb 1 n some, le-leb n (count p h) most, le-leb (height p h n) (length out) long)
+    written some most is long wrote =
+        let yes : okOut p h n out ≡ true = simp (size, le-leb 1 n some, le-leb n (count p h) most, le-leb (height p h n) (length out) (omega arith)) in
+        (simp (yes, is), simp yes (wrote ∙ ap (λ (k : ℕ). stackOf p h n ++ drop k out) is))
 
 -- the number of a stack
 

@@ -1,5 +1,4 @@
 -- The definitions of crate stacks.
 pub mod Stacks
-pub mod Functions
 pub mod Answers
 pub mod Steps

@@ -1,5 +1,5 @@
 -- What `ready` answers at each test, and what its answer tells the calls that start from it.
-use Prim.Native.Nat.{ℕ, _*_, _≤_, _<_}
+use Prim.Native.Nat.{ℕ, _*_, _≤_}
 use native.Mathlib.Nat.{mul-le-mul, mul-le-mul-right}
 use native.Mathlib.Omega.{arith}
 use mathlib.Core.Path.{_≡_, refl, sym, ap, _∙_}
@@ -7,14 +7,14 @@ use mathlib.Core.Bool.{Bool, true, false, cond, _&&_}
 use lib.ListN.{length}
 use lib.Dec.{eqb}
 use borrow.Author.Tests.{eqb-true, eqb-false, eq-eqb, ne-eqb}
-use Rattle.lists.proofs.Tests.{both, bool-cases}
+use Rattle.lists.proofs.Tests.{both}
 use Rattle.stacks.proofs.Tests.{sizes}
 use Rattle.stacks.proofs.Count.{count-some}
 use Rattle.network.specs.Network.{Network, stacks, refusalOf}
 use Rattle.network.specs.Answers.{checkedOf}
 use Rattle.network.specs.declared.Checked.{Checked}
 use Rattle.network.proofs.Laws.{checked-valid, checked-refused, valid}
-use Rattle.table.specs.Table.{Table, rowsEach, rowsAll}
+use Rattle.table.specs.Table.{Table, Sized, rowsEach, rowsAll}
 use Rattle.table.specs.Answers.{okLengths, refusal, readyOf}
 
 -- ---- at each test of `ready`
@@ -104,6 +104,9 @@ is-refused net t r e = go (eqb (refusalOf net) 0) refl (okLengths net (length (t
     go false u b v d =
         let q : refusalOf net ≡ r = cc in
         (simp u q, omega (arith, q, eqb-false (refusalOf net) 0 u))
+
+pub sized-so : (net : Network) (t : Table) (s : ℕ) → Ready net t s → Sized net t
+sized-so net t s r = record { costs = r .cost-long; ways = r .way-long; waits = r .waiting-long }
 
 -- a call that is refused before it begins, and one that is not
 pub begun : {A : Type 0} (net : Network) (t : Table) (s : ℕ) → Ready net t s → (x y : A) → cond (eqb (refusal net t) 0) x y ≡ x

@@ -5,9 +5,10 @@ use Prim.Native.Nat.{ℕ, _≤_, _<_, min}
 use native.Mathlib.Decide.{decLt}
 use native.Mathlib.Omega.{arith}
 use lib.ListN.{length, getD}
+use Rattle.bits.specs.Bits.{lowest}
 use Rattle.words.specs.declared.Found.{Found}
 use Rattle.words.specs.declared.Found.the-variants.{Nowhere, At}
-use Rattle.words.specs.Words.{lowest, firstIn, firstBetween}
+use Rattle.words.specs.Words.{firstIn, firstBetween}
 use Rattle.words.proofs.Answers.{Quiet, Here, Says, first-says, first-at, first-nowhere}
 
 -- two answers that are both right are one

@@ -5,3 +5,4 @@ pub mod Firsts
 pub mod Walk
 pub mod Found
 pub mod Rows
+pub mod Deliveries

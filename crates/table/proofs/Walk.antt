@@ -9,9 +9,10 @@ use native.Mathlib.Decide.{decLt}
 use native.Mathlib.Omega.{arith}
 use lib.ListN.{length, getD}
 use lib.Arith.{digits-lt}
+use Rattle.bits.specs.Bits.{has, lowest}
+use Rattle.bits.proofs.LowestBit.{lowest-has, lowest-first}
 use Rattle.words.specs.declared.Found.the-variants.{Nowhere, At}
-use Rattle.words.specs.Words.{has, lowest, firstIn, firstBetween}
-use Rattle.words.proofs.LowestBit.{lowest-has, lowest-first}
+use Rattle.words.specs.Words.{firstIn, firstBetween}
 use Rattle.words.proofs.Answers.{first-whole}
 use Rattle.words.proofs.Search.{first-here, first-next, first-end}
 use Rattle.table.proofs.Firsts.{Ahead}

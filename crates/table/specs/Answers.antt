@@ -3,8 +3,10 @@ use Prim.Native.Nat.{ℕ}
 use mathlib.Core.Bool.{Bool, cond, _&&_}
 use lib.ListN.{length, getD}
 use lib.Dec.{leb, ltb, eqb}
+use Rattle.lists.specs.Lists.{unless}
 use Rattle.stacks.specs.Stacks.{okNumber}
-use Rattle.words.specs.Words.{has, onesIn, firstIn}
+use Rattle.bits.specs.Bits.{has}
+use Rattle.words.specs.Words.{onesIn, firstIn}
 use Rattle.words.specs.declared.Found.{Found}
 use Rattle.network.specs.Network.{Network, stacks, refusalOf, present}
 use Rattle.network.specs.declared.Checked.{Checked}
@@ -12,10 +14,6 @@ use Rattle.table.specs.Table.{Table, ceiling, rowsAll, place, nodeAt, de
 use Rattle.table.specs.declared.Counted.{Counted}
 use Rattle.table.specs.declared.First.{First}
 use Rattle.table.specs.declared.Delivered.{Delivered}
-
--- the refusal where a test fails, and else what comes next
-abbrev pub unless : Bool → ℕ → ℕ → ℕ
-unless holds refusal next = cond holds next refusal
 
 -- "a table slice of the wrong length" is refusal 3: the lengths of the three slices
 unfoldable pub okLengths : Network → ℕ → ℕ → ℕ → Bool

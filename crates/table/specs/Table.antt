@@ -7,8 +7,9 @@ use lib.ListN.{length, getD, set}
 use lib.Dec.{leb, eqb}
 use borrow.Rule.Slice.PartMut.{midOf, putMid}
 use Rattle.lists.specs.Lists.{tabulate}
-use Rattle.network.specs.Network.{Network, stacks, link, neighbours, word, accepts}
-use Rattle.words.specs.Words.{without}
+use Rattle.network.specs.Network.{Network, stacks, link, neighbours}
+use Rattle.gateways.specs.Gateways.{word, accepts}
+use Rattle.bits.specs.Bits.{without}
 use Rattle.hear.specs.Hearing.{Gateway, Message, Rows, heard, taken}
 
 -- "Three lent slices, each n x n x S long."
@@ -30,6 +31,29 @@ noWay = 65535
 abbrev pub ceiling : ℕ
 ceiling = 2147303427
 
+-- "The row for node U, destination D, stack number N is at (U x n + D) x S + N - 1."
+abbrev pub placeIn : ℕ → ℕ → ℕ → ℕ → ℕ → ℕ
+placeIn n s U D N = (U * n + D) * s + (N - 1)
+
+-- where each gateway has so many rows: those of gateway U, which stand together, and the table with other rows in their place
+unfoldable pub rowsIn : ℕ → ℕ → Table → Rows
+rowsIn each U t = record {
+  costs = midOf (U * each) each (t .cost);
+  ways = midOf (U * each) each (t .way);
+  waiting = midOf (U * each) each (t .waiting);
+}
+
+unfoldable pub withRowsIn : ℕ → ℕ → Table → Rows → Table
+withRowsIn each U t r = record {
+  cost = putMid (U * each) each (t .cost) (r .costs);
+  way = putMid (U * each) each (t .way) (r .ways);
+  waiting = putMid (U * each) each (t .waiting) (r .waiting);
+}
+
+-- the table with bit U cleared in the row at a place
+unfoldable pub clearedAt : Table → ℕ → ℕ → Table
+clearedAt t at U = record { cost = t .cost; way = t .way; waiting = set (t .waiting) at (without (getD (t .waiting) at 0) U) }
+
 module _ (net : Network) where
   -- how many rows one gateway has, and how many there are in all
   abbrev pub rowsEach : ℕ
@@ -38,9 +62,9 @@ module _ (net : Network) where
   abbrev pub rowsAll : ℕ
   rowsAll = net .n * rowsEach
 
-  -- "The row for node U, destination D, stack number N is at (U x n + D) x S + N - 1."
+  -- of this network the place of a row
   abbrev pub place : ℕ → ℕ → ℕ → ℕ
-  place U D N = (U * net .n + D) * stacks net + (N - 1)
+  place U D N = placeIn (net .n) (stacks net) U D N
 
   -- so the row at place i is of this node, this destination and this stack number
   abbrev pub nodeAt : ℕ → ℕ
@@ -77,20 +101,12 @@ module _ (net : Network) where
     waiting = tabulate rowsAll (λ i. cond (homeAt i) (neighbours net (nodeAt i)) 0);
   }
 
-  -- the rows of one gateway, which stand together, and the table with other rows in their place
-  unfoldable pub rowsOf : ℕ → Table → Rows
-  rowsOf U t = record {
-    costs = midOf (U * rowsEach) rowsEach (t .cost);
-    ways = midOf (U * rowsEach) rowsEach (t .way);
-    waiting = midOf (U * rowsEach) rowsEach (t .waiting);
-  }
+  -- of this network the rows of one gateway, and the table with other rows in their place
+  abbrev pub rowsOf : ℕ → Table → Rows
+  rowsOf U t = rowsIn rowsEach U t
 
-  unfoldable pub withRows : ℕ → Table → Rows → Table
-  withRows U t r = record {
-    cost = putMid (U * rowsEach) rowsEach (t .cost) (r .costs);
-    way = putMid (U * rowsEach) rowsEach (t .way) (r .ways);
-    waiting = putMid (U * rowsEach) rowsEach (t .waiting) (r .waiting);
-  }
+  abbrev pub withRows : ℕ → Table → Rows → Table
+  withRows U t r = withRowsIn rowsEach U t r
 
   -- the gateway U as the one that hears
   abbrev pub gateway : ℕ → Gateway
@@ -101,12 +117,8 @@ module _ (net : Network) where
   message t Q U D N = record { sender = Q; destination = D; number = N; cost = getD (t .cost) (place Q D N) 0; link = link net U Q }
 
   -- "Bit U in V's row for (D, H') is cleared."
-  unfoldable pub cleared : Table → ℕ → ℕ → ℕ → ℕ → Table
-  cleared t Q U D N = record {
-    cost = t .cost;
-    way = t .way;
-    waiting = set (t .waiting) (place Q D N) (without (getD (t .waiting) (place Q D N) 0) U);
-  }
+  abbrev pub cleared : Table → ℕ → ℕ → ℕ → ℕ → Table
+  cleared t Q U D N = clearedAt t (place Q D N) U
 
   -- the table after the delivery, and "how many rows took an offer"
   unfoldable pub delivered : Table → ℕ → ℕ → ℕ → ℕ → Table

@@ -23,7 +23,7 @@ pub(crate) fn search(nodes: usize, rows: usize, waiting: &[u32]) -> Found
             }
             let mut bit = 0;
             while bit < 32 {
-                if words::has(word, bit) {
+                if bits::has(word, bit) {
                     found = Found::At(at, bit);
                     break 'table;
                 }

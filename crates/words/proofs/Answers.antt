@@ -6,9 +6,10 @@ use native.Mathlib.Decide.{decLt, ℕ-discrete}
 use native.Mathlib.Omega.{arith}
 use lib.ListN.{length, getD}
 use lib.Seq.{take-all}
+use Rattle.bits.specs.Bits.{lowest}
 use Rattle.words.specs.declared.Found.{Found}
 use Rattle.words.specs.declared.Found.the-variants.{Nowhere, At}
-use Rattle.words.specs.Words.{lowest, firstFrom, firstIn, firstBetween}
+use Rattle.words.specs.Words.{firstFrom, firstIn, firstBetween}
 use Rattle.words.proofs.Search.{first-here, first-next, first-end, first-cut}
 
 -- the words at from .. to - 1 are 0

@@ -1,9 +1,4 @@
--- The laws of waiting words, and the examples.
-pub mod Bits
-pub mod Laws
-pub mod Masks
-pub mod LowestBit
-pub mod Counts
+-- The laws of a list of waiting words, and the examples.
 pub mod Search
-pub mod Examples
 pub mod Answers
+pub mod Examples

@@ -10,9 +10,10 @@ use borrow.Author.Tests.{eq-eqb, ne-eqb, le-leb, lt-leb}
 use lib.Bits.{bitOr}
 use lib.ListN.{length, take, drop, getD, length-drop, drop-of-length-le}
 use lib.Seq.{drop-cons, take-all}
+use Rattle.bits.specs.Bits.{lowest, onesOf}
+use Rattle.bits.proofs.Bits.{zero-of-or}
 use Rattle.words.specs.declared.Found.the-variants.{Nowhere, At}
-use Rattle.words.specs.Words.{lowest, onesOf, onesIn, countOf, firstFrom, firstBetween}
-use Rattle.words.proofs.Bits.{zero-of-or}
+use Rattle.words.specs.Words.{onesIn, countOf, firstFrom, firstBetween}
 
 -- ---- the count
 pub count-few : (ws : List ℕ) → length ws ≤ 524288 → countOf ws ≡ onesIn ws

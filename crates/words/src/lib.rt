@@ -1,59 +1,13 @@
-// Waiting words: bit v of a word is set where a message about the word's row waits for neighbour v. Every function is total.
+// A slice of waiting words: its count of set bits, and the first set bit of a part of it. Every public function is total.
 ghost use mathlib.Core.Path.{_≡_};
 ghost use Prim.Native.Nat.{min, _≤_};
 ghost use lib.ListN.{length};
-ghost use Rattle.words.specs.Words.{has, without, withAll, withOne, lowest, onesOf, countOf, firstBetween};
+ghost use Rattle.words.specs.Words.{countOf, firstBetween};
 
 // Where a search ended: the place of a word in the slice, and the number of its lowest bit.
 pub enum Found {
     Nowhere,
     At(usize, usize),
-}
-
-// Whether a message waits for neighbour v; no bit stands at 32 or above.
-pub fn has(word: u32, v: usize) -> bool
-    ensures { λ r. ⌜ r ≡ has word v ⌝ }
-{
-    if v < 32 { (word >> v) % 2 == 1 } else { false }
-}
-
-// The word with bit v cleared.
-pub fn without(word: u32, v: usize) -> u32
-    ensures { λ r. ⌜ r ≡ without word v ⌝ }
-{
-    if v < 32 {
-        word - (word & (1u32 << v))
-    } else {
-        word
-    }
-}
-
-// The word with the bits of `more` set too.
-pub fn with_all(word: u32, more: u32) -> u32
-    ensures { λ r. ⌜ r ≡ withAll word more ⌝ }
-{
-    word | more
-}
-
-// The word with bit v set, where the word has a bit v.
-pub fn with_one(word: u32, v: usize) -> u32
-    ensures { λ r. ⌜ r ≡ withOne word v ⌝ }
-{
-    if v < 32 { word | (1u32 << v) } else { word }
-}
-
-// The lowest set bit; 32 where none is.
-pub fn lowest(word: u32) -> usize
-    ensures { λ r. ⌜ r ≡ lowest word ⌝ }
-{
-    u32::trailing_zeros(word) as usize
-}
-
-// How many bits are set.
-pub fn ones(word: u32) -> u32
-    ensures { λ r. ⌜ r ≡ onesOf word ⌝ }
-{
-    u32::count_ones(word)
 }
 
 // How many bits of all the words are set; 0 where there are more words than 2^19, so that no sum can wrap.
@@ -66,7 +20,7 @@ pub fn ones_in(words: &[u32]) -> u64
     let mut sum: u64 = 0;
     let mut i = 0;
     while i < words.len() {
-        sum += ones(words[i]) as u64;
+        sum += bits::ones(words[i]) as u64;
         i += 1;
     }
     sum
@@ -107,7 +61,7 @@ pub fn first_in(words: &[u32], from: usize, to: usize) -> Found
     while i < end {
         let word = words[i];
         if word != 0 {
-            return Found::At(i, lowest(word));
+            return Found::At(i, bits::lowest(word));
         }
         i += 1;
     }

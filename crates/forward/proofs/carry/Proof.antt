@@ -1,5 +1,4 @@
 -- `forward::carry` meets its contract.
-use mathlib.Core.Path.{sym, _∙_}
 use denote.Ref.{now}
 use borrow.Author.Needs.{needs}
 use Rattle.network.specs.Network.{Network, networkOf}
@@ -21,7 +20,7 @@ begun : (c : tie.After-known-told)
 begun c =
     let s = c .before .before .before .before .before .before .before .before .before .before in
     is-begun (net s) (tab s) (s .args .node) (s .args .destination) (now (s .args .stack)) (c .before .stacks .given .0 .0) (c .before .stacks .given .0 .1 .0)
-    (sym (c .before .before .before .begin .ensures) ∙ c .before .stacks .given .1)
+    (c .before .before .before .begin .ensures) (c .before .stacks .given .1)
 
 begin-requires : tie.Need-begin-requires
 begin-requires c κs = search needs
@@ -57,7 +56,7 @@ returns-3 : tie.Need-returns-3
 returns-3 c =
     let s = c .before .before .before .before .before .before .before .before .before .before in
     zeros (c .before .refusal .given .0 .0) (carryOf (net s) (tab s) (s .args .node) (s .args .destination) (now (s .args .stack)) (s .args .limit))
-    (refused-both (net s) (tab s) (s .args .node) (s .args .destination) (now (s .args .stack)) (c .before .refusal .given .0 .0) (sym (c .before .before .before .begin .ensures) ∙ c .before .refusal .given .1) .1 (s .args .limit))
+    (refused-both (net s) (tab s) (s .args .node) (s .args .destination) (now (s .args .stack)) (c .before .refusal .given .0 .0) (c .before .before .before .begin .ensures) (c .before .refusal .given .1) .1 (s .args .limit))
 
 pub carry-spec : {M : Type 1} → statement M
 carry-spec =

@@ -1,5 +1,4 @@
 -- `forward::lookup` meets its contract.
-use mathlib.Core.Path.{sym, _∙_}
 use denote.Ref.{now}
 use borrow.Author.Needs.{needs}
 use Rattle.network.specs.Network.{Network, networkOf}
@@ -19,7 +18,7 @@ begun : (c : tie.After-known-told)
 begun c =
     let s = c .before .before .before .before .before .before .before .before .before .before in
     is-begun (net s) (tab s) (s .args .node) (s .args .destination) (now (s .args .stack)) (c .before .stacks .given .0 .0) (c .before .stacks .given .0 .1 .0)
-    (sym (c .before .before .before .begin .ensures) ∙ c .before .stacks .given .1)
+    (c .before .before .before .begin .ensures) (c .before .stacks .given .1)
 
 begin-requires : tie.Need-begin-requires
 begin-requires c κs = search needs
@@ -38,13 +37,13 @@ enum-known-refusal c = search needs
 returns : tie.Need-returns
 returns c =
     let s = c .before .before .before .before .before .before .before .before .before .before .before in
-    c .look .ensures (now (s .args .waiting))
-    ∙ looked (net s) (tab s) (s .args .node) (s .args .destination) (now (s .args .stack)) (c .before .before .stacks .given .0 .0) (c .before .before .stacks .given .0 .1 .0) (begun (c .before))
+    looked (net s) (tab s) (s .args .node) (s .args .destination) (now (s .args .stack)) (c .before .before .stacks .given .0 .0) (c .before .before .stacks .given .0 .1 .0) (begun (c .before))
+    (c .look .ensures (now (s .args .waiting)))
 
 returns-2 : tie.Need-returns-2
 returns-2 c =
     let s = c .before .before .before .before .before .before .before .before .before .before in
-    refused-both (net s) (tab s) (s .args .node) (s .args .destination) (now (s .args .stack)) (c .before .refusal .given .0 .0) (sym (c .before .before .before .begin .ensures) ∙ c .before .refusal .given .1) .0
+    refused-both (net s) (tab s) (s .args .node) (s .args .destination) (now (s .args .stack)) (c .before .refusal .given .0 .0) (c .before .before .before .begin .ensures) (c .before .refusal .given .1) .0
 
 pub lookup-spec : {M : Type 1} → statement M
 lookup-spec =

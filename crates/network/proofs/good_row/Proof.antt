@@ -6,7 +6,7 @@ use mathlib.Core.Bool.{true}
 use borrow.Author.Count.{below-more}
 use borrow.Author.Tests.{not-true, not-false}
 use Rattle.network.specs.Steps.{pairAt}
-use Rattle.network.proofs.Rows.{row-loop, row-one-way, row-good}
+use Rattle.network.proofs.Rows.{pair-told, row-loop, row-one-way, row-good}
 use Rattle.network.proofs.good_row.Statement.{statement}
 use Rattle.network.proofs.good_row.Tie as tie
 
@@ -27,13 +27,17 @@ returns c =
 loop-holds : tie.Need-loop-holds Inv-loop μ-loop
 loop-holds c = (omega arith, λ k low. absurd (omega arith))
 
-paired-requires : tie.Need-paired-requires Inv-loop μ-loop
-paired-requires c κs = let pre = c .before .before .before .before .before .pre in (pre .0, pre .1, pre .2, omega arith)
+link-in-requires-2 : tie.Need-link-in-requires-2 Inv-loop μ-loop
+link-in-requires-2 c κs = let pre = c .before .before .before .before .before .pre in (pre .0, pre .1, pre .2, omega arith)
+
+link-in-requires-3 : tie.Need-link-in-requires-3 Inv-loop μ-loop
+link-in-requires-3 c κs = let pre = c .before .before .before .before .before .before .pre in (pre .0, pre .1, omega arith, pre .2)
 
 returns-2 : tie.Need-returns-2 Inv-loop μ-loop
 returns-2 c =
-    let a = c .before .before .before .before .before .before .before .args in
-    sym (row-one-way (a .n) (a .links .now) (a .u) (c .before .before .before .loop .w) (omega arith) (sym (c .before .paired .ensures) ∙ not-true _ (c .if2 .taken)))
+    let a = c .before .before .before .before .before .before .before .before .args in
+    sym (row-one-way (a .n) (a .links .now) (a .u) (c .before .before .before .before .loop .w) (omega arith)
+    (sym (pair-told _ _ _ _ _ _ (c .before .before .link-in2 .ensures) (c .before .link-in3 .ensures)) ∙ not-true _ (c .if2 .taken)))
 
 add-w : tie.Need-add-w Inv-loop μ-loop
 add-w c = omega arith
@@ -43,8 +47,8 @@ loop-less c = omega arith
 
 loop-again : tie.Need-loop-again Inv-loop μ-loop
 loop-again c =
-    let l = c .before .before .before .loop in
-    (omega arith, below-more _ (l .w) (l .inv .1) (sym (c .before .paired .ensures) ∙ not-false _ (c .if2 .left)))
+    let l = c .before .before .before .before .loop in
+    (omega arith, below-more _ (l .w) (l .inv .1) (sym (pair-told _ _ _ _ _ _ (c .before .before .link-in2 .ensures) (c .before .link-in3 .ensures)) ∙ not-false _ (c .if2 .left)))
 
 returns-3 : tie.Need-returns-3 Inv-loop μ-loop
 returns-3 c =
@@ -60,7 +64,8 @@ good-row-spec =
     link-in-requires
     returns
     loop-holds
-    paired-requires
+    link-in-requires-2
+    link-in-requires-3
     returns-2
     add-w
     loop-less

@@ -3,7 +3,7 @@ use Prim.Native.Nat.{ℕ, _-_, _≤_}
 use native.Mathlib.Omega.{arith}
 use mathlib.Core.Path.{_≡_, refl, sym, ap, _∙_}
 use lib.Dec.{ltb}
-use Rattle.words.specs.Words.{wordOf}
+use Rattle.bits.specs.Bits.{wordOf}
 use Rattle.network.specs.Network.{linkAt, neighboursAt}
 use Rattle.network.proofs.Rows.{neighbours-many, one-more}
 use Rattle.network.proofs.neighbours.Statement.{statement}
@@ -37,7 +37,7 @@ loop-again : tie.Need-loop-again Inv-loop μ-loop
 loop-again c =
     let a = c .before .before .before .before .before .args in
     let l = c .before .before .loop in
-    (omega arith, c .with-link .ensures ∙ one-more (a .n) (a .links .now) (a .node) (l .w) (l .word) (omega arith) (l .inv .1))
+    (omega arith, one-more (a .n) (a .links .now) (a .node) (l .w) (l .word) _ (omega arith) (l .inv .1) (c .with-link .ensures))
 
 returns-2 : tie.Need-returns-2 Inv-loop μ-loop
 unfolding neighboursAt

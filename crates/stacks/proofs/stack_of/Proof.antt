@@ -1,14 +1,10 @@
 -- `stacks::stack_of` meets its contract: a law for each test that refuses, and what `filled` wrote.
-use Prim.Native.Nat.{ℕ}
-use mathlib.Core.Path.{sym, ap, _∙_}
-use mathlib.Core.List.{_++_}
-use lib.ListN.{drop}
+use mathlib.Core.Path.{sym, _∙_}
 use denote.Ref.{now}
 use native.Mathlib.Omega.{arith}
 use borrow.Author.Needs.{needs}
-use Rattle.stacks.specs.Stacks.{stackOf}
 use Rattle.stacks.proofs.Tests.{sizes}
-use Rattle.stacks.proofs.Refusals.{bad-size, no-number, too-large, no-room, room}
+use Rattle.stacks.proofs.Refusals.{bad-size, no-number, too-large, no-room, written}
 use Rattle.stacks.proofs.stack_of.Statement.{statement}
 use Rattle.stacks.proofs.stack_of.Tie as tie
 
@@ -52,14 +48,12 @@ same-length c = search needs
 
 returns-4 : tie.Need-returns-4
 returns-4 c =
-    let a = c .before .before .before .before .before .before .before .before .before .before .before .before .args in
-    let e = c .before .before .before .before .before .height-of .ensures in
-    let yes =
-    room (a .p) (a .h) (a .number) (now (a .out)) (sym (c .before .before .before .before .before .before .before .before .before .before .good-size .ensures) ∙ c .before .before .before .before .before .before .before .before .before .if1 .taken) (c .before .before .before .before .before .before .before .before .if2 .left)
-    (omega (arith, c .before .before .before .before .before .before .before .total .ensures, c .before .before .before .before .before .before .if3 .left)) (omega (arith, e, c .before .before .before .before .if4 .left)) in (
-      simp (yes, e),
-      simp yes (c .before .before .filled .ensures ∙ ap (λ (k : ℕ). stackOf (a .p) (a .h) (a .number) ++ drop k (now (a .out))) e),
-    )
+    let f = c .before .before in
+    let h = f .before .before .before in
+    let s = h .before .before .before .before .before in
+    let a = s .before .before .args in
+    written (a .p) (a .h) (a .number) (now (a .out)) (sym (s .good-size .ensures) ∙ h .before .before .before .before .if1 .taken) (h .before .before .before .if2 .left)
+    (omega (arith, h .before .before .total .ensures, h .before .if3 .left)) (h .height-of .ensures) (f .before .before .if4 .left) (f .filled .ensures)
 
 returns-5 : tie.Need-returns-5
 returns-5 c =

@@ -1,5 +1,5 @@
 -- `table::first_waiting` meets its contract: a law for each thing that the search may find.
-use mathlib.Core.Path.{sym, ap, _∙_}
+use mathlib.Core.Path.{sym, _∙_}
 use denote.Ref.{now}
 use native.Mathlib.Nat.{mod-lt}
 use native.Mathlib.Omega.{arith}

@@ -5,8 +5,8 @@ use native.Mathlib.Nat.{zero-add}
 use native.Mathlib.Omega.{arith}
 use borrow.Author.Needs.{needs}
 use lib.ListN.{length, drop, getD}
+use Rattle.bits.proofs.Counts.{ones-le}
 use Rattle.words.specs.Words.{onesIn}
-use Rattle.words.proofs.Counts.{ones-le}
 use Rattle.words.proofs.Search.{count-few, count-many, onesIn-next, onesIn-end}
 use Rattle.words.proofs.ones_in.Statement.{statement}
 use Rattle.words.proofs.ones_in.Tie as tie

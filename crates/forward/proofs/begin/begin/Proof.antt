@@ -1,12 +1,8 @@
 -- `forward::begin::begin` meets its contract: a law of proofs/Packets.antt for each return.
-use mathlib.Core.Path.{_≡_, sym, _∙_}
 use denote.Ref.{now}
-use lib.ListN.{length}
 use borrow.Author.Needs.{needs}
 use Rattle.network.specs.Network.{Network, networkOf}
-use Rattle.network.specs.declared.Checked.{Checked}
 use Rattle.table.specs.Table.{Table, tableOf}
-use Rattle.table.specs.Answers.{readyOf}
 use Rattle.forward.proofs.Packets.{not-begun, no-node, no-destination, no-stack, good-packet}
 use Rattle.forward.proofs.begin.begin.Statement.{statement}
 use Rattle.forward.proofs.begin.begin.Tie as tie
@@ -17,10 +13,6 @@ net s = let a = s .args in networkOf (a .n) (a .p) (a .h) (now (a .links)) (now 
 abbrev tab : tie.Start → Table
 tab s = let a = s .args in tableOf (now (a .cost)) (now (a .way)) (now (a .waiting))
 
-ready-so : (c : tie.After-known-told)
-    → let a = c .before .before .before .before .before .before .before .before .before .before .args in readyOf (net (c .before .before .before .before .before .before .before .before .before .before)) (length (now (a .cost))) (length (now (a .way))) (length (now (a .waiting))) ≡ Checked.Stacks (c .before .most .given .0 .0)
-ready-so c = sym (c .before .before .before .ready .ensures) ∙ c .before .most .given .1
-
 ready-requires : tie.Need-ready-requires
 ready-requires c κs = search needs
 
@@ -30,12 +22,12 @@ enum-known-most c = search needs
 returns : tie.Need-returns
 returns c =
     let s = c .before .before .before .before .before .before .before .before .before .before .before in
-    no-node (net s) (tab s) (s .args .node) (s .args .destination) (now (s .args .stack)) (c .before .before .most .given .0 .0) (ready-so (c .before)) (c .if1 .taken)
+    no-node (net s) (tab s) (s .args .node) (s .args .destination) (now (s .args .stack)) (c .before .before .most .given .0 .0) (c .before .before .before .before .ready .ensures) (c .before .before .most .given .1) (c .if1 .taken)
 
 returns-2 : tie.Need-returns-2
 returns-2 c =
     let s = c .before .before .before .before .before .before .before .before .before .before .before .before in
-    no-destination (net s) (tab s) (s .args .node) (s .args .destination) (now (s .args .stack)) (c .before .before .before .most .given .0 .0) (ready-so (c .before .before)) (c .before .if1 .left) (c .if2 .taken)
+    no-destination (net s) (tab s) (s .args .node) (s .args .destination) (now (s .args .stack)) (c .before .before .before .most .given .0 .0) (c .before .before .before .before .before .ready .ensures) (c .before .before .before .most .given .1) (c .before .if1 .left) (c .if2 .taken)
 
 number-of-requires : tie.Need-number-of-requires
 number-of-requires c κs = search needs
@@ -52,19 +44,19 @@ enum-known-refusal-2 c = search needs
 returns-3 : tie.Need-returns-3
 returns-3 c =
     let s = c .before .before .before .before .before .before .before .before .before .before .before .before .before .before .before .before in
-    good-packet (net s) (tab s) (s .args .node) (s .args .destination) (now (s .args .stack)) (c .before .before .before .before .before .before .before .most .given .0 .0) (ready-so (c .before .before .before .before .before .before))
-    (c .before .number .given .0 .0) (c .before .before .before .before .before .if1 .left) (c .before .before .before .before .if2 .left) (sym (c .before .before .before .number-of .ensures) ∙ c .before .number .given .1)
+    good-packet (net s) (tab s) (s .args .node) (s .args .destination) (now (s .args .stack)) (c .before .before .before .before .before .before .before .most .given .0 .0) (c .before .before .before .before .before .before .before .before .before .ready .ensures) (c .before .before .before .before .before .before .before .most .given .1)
+    (c .before .number .given .0 .0) (c .before .before .before .before .before .if1 .left) (c .before .before .before .before .if2 .left) (c .before .before .before .number-of .ensures) (c .before .number .given .1)
 
 returns-4 : tie.Need-returns-4
 returns-4 c =
     let s = c .before .before .before .before .before .before .before .before .before .before .before .before .before .before .before .before in
-    no-stack (net s) (tab s) (s .args .node) (s .args .destination) (now (s .args .stack)) (c .before .before .before .before .before .before .before .most .given .0 .0) (ready-so (c .before .before .before .before .before .before))
-    (c .before .refusal .given .0 .0) (c .before .before .before .before .before .if1 .left) (c .before .before .before .before .if2 .left) (sym (c .before .before .before .number-of .ensures) ∙ c .before .refusal .given .1)
+    no-stack (net s) (tab s) (s .args .node) (s .args .destination) (now (s .args .stack)) (c .before .before .before .before .before .before .before .most .given .0 .0) (c .before .before .before .before .before .before .before .before .before .ready .ensures) (c .before .before .before .before .before .before .before .most .given .1)
+    (c .before .refusal .given .0 .0) (c .before .before .before .before .before .if1 .left) (c .before .before .before .before .if2 .left) (c .before .before .before .number-of .ensures) (c .before .refusal .given .1)
 
 returns-5 : tie.Need-returns-5
 returns-5 c =
     let s = c .before .before .before .before .before .before .before .before .before .before in
-    not-begun (net s) (tab s) (s .args .node) (s .args .destination) (now (s .args .stack)) (c .before .refusal2 .given .0 .0) (sym (c .before .before .before .ready .ensures) ∙ c .before .refusal2 .given .1)
+    not-begun (net s) (tab s) (s .args .node) (s .args .destination) (now (s .args .stack)) (c .before .refusal2 .given .0 .0) (c .before .before .before .ready .ensures) (c .before .refusal2 .given .1)
 
 pub begin-spec : {M : Type 1} → statement M
 begin-spec =

@@ -14,7 +14,7 @@ use Rattle.forward.specs.Forward.{lookAt}
 use Rattle.forward.specs.declared.Look.{Look}
 use Rattle.forward.proofs.Look.{the-type}
 use Rattle.forward.proofs.Tells.{forward-tells}
-use Rattle.forward.proofs.Travels.{Going, weight-is, can-word, starts, stops-here, limit-here, goes-on}
+use Rattle.forward.proofs.Travels.{Going, can-word, starts, stops-here, limit-here, goes-on}
 use Rattle.forward.proofs.journey.travel.Statement.{statement}
 use Rattle.forward.proofs.journey.travel.Tie as tie
 
@@ -51,7 +51,7 @@ next c =
     let v = c .before .before .before .found .given .0 in
     goes-on (net s) (now (a .cost)) (now (a .way)) (a .destination) (a .limit) (a .from) (a .first) (l .hops) (l .spent) (l .node) (l .number) (kept (c .before .before .before .before .before .before))
     (v .0) (v .1 .0) (v .1 .1 .0) (v .1 .1 .1 .0) (forwarded (c .before .before)) (c .hop-cost .result) (omega (arith, kept (c .before .before .before .before .before .before) .within, c .before .if1 .left))
-    (c .hop-cost .ensures .0 ∙ weight-is (net s) (l .node) (v .1 .0) (v .0)) (c .hop-cost .ensures .1)
+    (c .hop-cost .ensures .0) (c .hop-cost .ensures .1)
 
 loop-holds : tie.Need-loop-holds Inv-loop μ-loop
 loop-holds c =

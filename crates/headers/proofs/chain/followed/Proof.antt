@@ -4,7 +4,10 @@ use mathlib.Core.Path.{_≡_, sym, _∙_}
 use lib.ListN.{length}
 use denote.Ref.{now}
 use native.Mathlib.Omega.{arith}
+use Rattle.headers.specs.Fields as fields
 use Rattle.headers.specs.Chains.{headerRefusal}
+use Rattle.headers.proofs.Bytes.{protocol-is}
+use Rattle.headers.proofs.Lengths.{two-protocols}
 use Rattle.headers.proofs.Following.{Following, starts, light, sum-few, refuses, room, too-high, ends, goes-on}
 use Rattle.headers.proofs.chain.followed.Statement.{statement}
 use Rattle.headers.proofs.chain.followed.Tie as tie
@@ -28,13 +31,20 @@ long c =
     let a = l .before .before .args in
     room (now (a .packet)) (a .h) (l .loop .announced) (l .loop .k) (l .loop .s) (l .loop .e) (l .loop .number) (l .loop .weight) (l .loop .inv) (fine c)
 
+-- the protocol of the header
+protocol : (c : tie.After-by-version Inv-loop μ-loop) → let l = c .before .before .before .before in
+    c .by-version .result ≡ fields.protocol (now (l .before .before .args .packet)) (l .loop .s)
+protocol c =
+    let l = c .before .before .before .before in
+    protocol-is (now (l .before .before .args .packet)) (l .loop .s) (c .by-version .ensures)
+
 -- what a turn makes of the number is small
-small : (c : tie.After-protocol-at Inv-loop μ-loop) → let l = c .before .before .before .before in
-    l .loop .number + l .loop .weight * (c .protocol-at .result + 1) ≤ 16382
+small : (c : tie.After-by-version Inv-loop μ-loop) → let l = c .before .before .before .before in
+    l .loop .number + l .loop .weight * (c .by-version .result + 1) ≤ 16382
 small c =
     let l = c .before .before .before .before in
     let a = l .before .before .args in
-    sum-few (now (a .packet)) (a .h) (l .loop .announced) (l .loop .k) (l .loop .s) (l .loop .e) (l .loop .number) (l .loop .weight) (l .loop .inv) (c .protocol-at .result) (l .before .before .pre) (c .protocol-at .ensures .1)
+    sum-few (now (a .packet)) (a .h) (l .loop .announced) (l .loop .k) (l .loop .s) (l .loop .e) (l .loop .number) (l .loop .weight) (l .loop .inv) (c .by-version .result) (l .before .before .pre) (protocol c)
 
 loop-holds : tie.Need-loop-holds Inv-loop μ-loop
 loop-holds c = starts (now (c .before .args .packet)) (c .before .args .h)
@@ -54,11 +64,11 @@ returns-2 c =
     let a = l .before .before .args in
     too-high (now (a .packet)) (a .h) (l .loop .announced) (l .loop .k) (l .loop .s) (l .loop .e) (l .loop .number) (l .loop .weight) (l .loop .inv) (fine (c .before)) (c .if2 .taken)
 
-protocol-at-requires : tie.Need-protocol-at-requires Inv-loop μ-loop
-protocol-at-requires c κs = omega (arith, long (c .before))
+by-version-requires : tie.Need-by-version-requires Inv-loop μ-loop
+by-version-requires c κs = omega (arith, long (c .before))
 
 add-number : tie.Need-add-number Inv-loop μ-loop
-add-number c = omega (arith, c .protocol-at .ensures .1)
+add-number c = omega (arith, two-protocols (now (c .before .before .before .before .before .before .args .packet)) (c .before .before .before .before .loop .s), protocol c)
 
 mul-number : tie.Need-mul-number Inv-loop μ-loop
 mul-number c = omega (arith, small c)
@@ -87,8 +97,8 @@ returns-3 c =
     let l = p .before .before .before .before in
     let a = l .before .before .args in
     ends (now (a .packet)) (a .h) (l .loop .announced) (l .loop .k) (l .loop .s) (l .loop .e) (l .loop .number) (l .loop .weight) (l .loop .inv) (fine (p .before .before)) (p .before .if2 .left)
-    (p .protocol-at .result) (c .before .before .before .header-length .result) (c .before .before .packet-length .result) (c .before .announced-by .result)
-    (p .protocol-at .ensures .0) (c .before .before .before .header-length .ensures .0) (c .before .before .packet-length .ensures .0) (c .before .announced-by .ensures) (c .if3 .taken)
+    (p .by-version .result) (c .before .before .before .header-length .result) (c .before .before .packet-length .result) (c .before .announced-by .result)
+    (protocol p) (c .before .before .before .header-length .ensures .0) (c .before .before .packet-length .ensures .0) (c .before .announced-by .ensures) (c .if3 .taken)
 
 mul-weight : tie.Need-mul-weight Inv-loop μ-loop
 mul-weight c =
@@ -112,8 +122,8 @@ loop-again c =
     let l = p .before .before .before .before in
     let a = l .before .before .args in
     goes-on (now (a .packet)) (a .h) (l .loop .announced) (l .loop .k) (l .loop .s) (l .loop .e) (l .loop .number) (l .loop .weight) (l .loop .inv) (fine (p .before .before)) (p .before .if2 .left)
-    (p .protocol-at .result) (c .before .before .before .header-length .result) (c .before .before .packet-length .result) (c .before .announced-by .result)
-    (p .protocol-at .ensures .0) (c .before .before .before .header-length .ensures .0) (c .before .before .packet-length .ensures .0) (c .before .announced-by .ensures) (c .if3 .left)
+    (p .by-version .result) (c .before .before .before .header-length .result) (c .before .before .packet-length .result) (c .before .announced-by .result)
+    (protocol p) (c .before .before .before .header-length .ensures .0) (c .before .before .packet-length .ensures .0) (c .before .announced-by .ensures) (c .if3 .left)
 
 pub followed-spec : {M : Type 1} → statement M
 followed-spec =
@@ -125,7 +135,7 @@ followed-spec =
     judged-requires
     returns
     returns-2
-    protocol-at-requires
+    by-version-requires
     add-number
     mul-number
     add-number-2

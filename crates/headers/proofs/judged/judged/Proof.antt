@@ -1,72 +1,69 @@
 -- `headers::judged::judged` meets its contract: a law of proofs/Judging.antt for each return.
 use mathlib.Core.Path.{_≡_, sym, _∙_}
 use mathlib.Core.Bool.{true}
-use native.Mathlib.Omega.{arith}
 use denote.Ref.{now}
-use Rattle.headers.specs.Fields.{okHeader, okRoom, okVersion}
+use Rattle.headers.specs.Fields.{okRoom}
+use Rattle.headers.proofs.Bytes.{shortest-is}
 use Rattle.headers.proofs.Lengths.{room-20}
-use Rattle.headers.proofs.Judging.{too-short, wrong-version, bad-header, as-inner}
+use Rattle.headers.proofs.Judging.{no-room, too-short, has-room, wrong-version, as-rest}
 use borrow.Author.Needs.{needs}
 use Rattle.headers.proofs.judged.judged.Statement.{statement}
 use Rattle.headers.proofs.judged.judged.Tie as tie
 
--- what the tests that were passed say
-room : (c : tie.Then1) → let a = c .before .before .before .args in okRoom (now (a .packet)) (a .s) (a .e) ≡ true
-room c = sym (c .before .has-room .ensures) ∙ c .if1 .taken
-
-versioned : (c : tie.Then2) → let a = c .before .before .before .before .before .args in okVersion (now (a .packet)) (a .s) (a .announced) ≡ true
-versioned c = sym (c .before .version-fits .ensures) ∙ c .if2 .taken
-
-header : (c : tie.Then3) → let a = c .before .before .before .before .before .before .before .args in okHeader (now (a .packet)) (a .s) ≡ true
-header c = sym (c .before .good-header .ensures) ∙ c .if3 .taken
-
-has-room-requires : tie.Need-has-room-requires
-has-room-requires c κs = search needs
-
-version-fits-requires : tie.Need-version-fits-requires
-version-fits-requires c κs =
-    let a = c .before .before .before .args in
-    omega (arith, room-20 (now (a .packet)) (a .s) (a .e) (room c))
-
-good-header-requires : tie.Need-good-header-requires
-good-header-requires c κs =
-    let a = c .before .before .before .before .before .args in
-    omega (arith, room-20 (now (a .packet)) (a .s) (a .e) (room (c .before .before)))
-
-inner-judged-requires : tie.Need-inner-judged-requires
-inner-judged-requires c κs =
-    let a = c .before .before .before .before .before .before .before .args in
-    (room-20 (now (a .packet)) (a .s) (a .e) (room (c .before .before .before .before)), c .before .before .before .before .before .before .before .pre, header c)
+-- the header has room
+room : (c : tie.Else2) → let a = c .before .before .before .before .args in okRoom (now (a .packet)) (a .s) (a .e) ≡ true
+room c =
+    let b = c .before in
+    let a = b .before .before .before .args in
+    has-room (now (a .packet)) (a .s) (a .announced) (a .e) (b .before .if1 .left) (shortest-is (now (a .packet)) (a .s) (b .by-version .ensures)) (c .if2 .left)
 
 returns : tie.Need-returns
 returns c =
-    let a = c .before .before .before .before .before .before .before .before .args in
-    as-inner (now (a .packet)) (a .s) (a .announced) (a .e) (room (c .before .before .before .before .before)) (versioned (c .before .before .before)) (header (c .before)) (c .inner-judged .ensures)
+    let a = c .before .before .args in
+    no-room (now (a .packet)) (a .s) (a .announced) (a .e) (c .if1 .taken)
+
+sub-if2 : tie.Need-sub-if2
+sub-if2 c = search needs
+
+by-version-requires : tie.Need-by-version-requires
+by-version-requires c κs = search needs
 
 returns-2 : tie.Need-returns-2
 returns-2 c =
-    let a = c .before .before .before .before .before .before .before .args in
-    bad-header (now (a .packet)) (a .s) (a .announced) (a .e) (room (c .before .before .before .before)) (versioned (c .before .before)) (sym (c .before .good-header .ensures) ∙ c .if3 .left)
+    let b = c .before in
+    let a = b .before .before .before .args in
+    too-short (now (a .packet)) (a .s) (a .announced) (a .e) (b .before .if1 .left) (shortest-is (now (a .packet)) (a .s) (b .by-version .ensures)) (c .if2 .taken)
+
+version-fits-requires : tie.Need-version-fits-requires
+version-fits-requires c κs = search needs
+
+rest-judged-requires : tie.Need-rest-judged-requires
+rest-judged-requires c κs =
+    let r = c .before .before in
+    let s = r .before .before .before .before in
+    (room-20 (now (s .args .packet)) (s .args .s) (s .args .e) (room r), s .pre)
 
 returns-3 : tie.Need-returns-3
 returns-3 c =
-    let a = c .before .before .before .before .before .args in
-    wrong-version (now (a .packet)) (a .s) (a .announced) (a .e) (room (c .before .before)) (sym (c .before .version-fits .ensures) ∙ c .if2 .left)
+    let r = c .before .before .before in
+    let a = r .before .before .before .before .args in
+    as-rest (now (a .packet)) (a .s) (a .announced) (a .e) (room r) (sym (c .before .before .version-fits .ensures) ∙ c .before .if3 .taken) (c .rest-judged .ensures)
 
 returns-4 : tie.Need-returns-4
 returns-4 c =
-    let a = c .before .before .before .args in
-    too-short (now (a .packet)) (a .s) (a .announced) (a .e) (sym (c .before .has-room .ensures) ∙ c .if1 .left)
+    let r = c .before .before in
+    let a = r .before .before .before .before .args in
+    wrong-version (now (a .packet)) (a .s) (a .announced) (a .e) (room r) (sym (c .before .version-fits .ensures) ∙ c .if3 .left)
 
 pub judged-spec : {M : Type 1} → statement M
 judged-spec =
     tie.close
     (tie.spec
-    has-room-requires
-    version-fits-requires
-    good-header-requires
-    inner-judged-requires
     returns
+    sub-if2
+    by-version-requires
     returns-2
+    version-fits-requires
+    rest-judged-requires
     returns-3
     returns-4)

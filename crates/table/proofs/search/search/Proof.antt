@@ -6,9 +6,9 @@ use Prim.Native.Nat.{ℕ, _+_, _*_, _-_, _≤_, _<_}
 use native.Mathlib.Omega.{arith}
 use borrow.Author.Needs.{needs}
 use borrow.Author.Count.{below-more}
+use Rattle.bits.specs.Bits.{has}
+use Rattle.bits.proofs.Laws.{no-bit}
 use Rattle.words.specs.declared.Found.the-variants.{Nowhere}
-use Rattle.words.specs.Words.{has}
-use Rattle.words.proofs.Laws.{no-bit}
 use Rattle.table.proofs.Firsts.{Ahead}
 use Rattle.table.proofs.Walk.{AtRow, at-start, at-row, row-inside, row-passed, bit-found, node-passed, all-passed}
 use Rattle.table.proofs.search.search.Statement.{statement}

@@ -1,0 +1,5 @@
+-- The laws of crate deliver_exports, and what they rest on.
+pub mod Unpacked
+pub mod Answered
+pub mod Kept
+pub mod Running

@@ -1,0 +1,4 @@
+-- The definitions of crate deliver_exports.
+pub mod Packing
+pub mod Ranges
+pub mod Run

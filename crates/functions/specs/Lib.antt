@@ -1,0 +1,3 @@
+-- The definitions of crate functions.
+pub mod Functions
+pub mod Answers

@@ -1,0 +1,2 @@
+-- The definitions of crate gateways.
+pub mod Gateways

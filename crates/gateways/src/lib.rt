@@ -1,0 +1,86 @@
+// What each gateway can do to a packet. Every public function takes any input; its contract is an equation with a definition of specs/.
+ghost use mathlib.Core.Path.{_≡_};
+ghost use Rattle.lists.specs.Lists.{tabulate};
+ghost use Rattle.gateways.specs.Gateways.{wordAt, receivesAt, gridOf};
+
+// What a node's function of a kind, from protocol a and to protocol b, is written down as: 0, or its price and 1.
+pub fn word_at(
+    n: usize,
+    p: usize,
+    functions: &[u16],
+    node: usize,
+    kind: usize,
+    a: usize,
+    b: usize,
+) -> u16
+    ensures { λ r. ⌜ r ≡ wordAt n p (now (functions .entry)) node kind a b ⌝ }
+{
+    if 32 < n {
+        return 0;
+    }
+    if n <= node {
+        return 0;
+    }
+    if 8 < p {
+        return 0;
+    }
+    if 2 < kind {
+        return 0;
+    }
+    if p <= a {
+        return 0;
+    }
+    if p <= b {
+        return 0;
+    }
+    network::entry(functions, ((node * 3 + kind) * p + a) * p + b)
+}
+
+// Row a of the grid.
+fn grid_row(n: usize, p: usize, functions: &[u16], node: usize, kind: usize, a: usize) -> [u16; 8]
+    ensures { λ r. ⌜ r ≡ tabulate 8 (λ b. wordAt n p (now (functions .entry)) node kind a b) ⌝ }
+{
+    let mut row = [0u16; 8];
+    let mut b = 0;
+    while b < 8 {
+        row[b] = word_at(n, p, functions, node, kind, a, b);
+        b += 1;
+    }
+    row
+}
+
+// One node's words of one kind, row a and column b.
+pub fn grid(n: usize, p: usize, functions: &[u16], node: usize, kind: usize) -> [[u16; 8]; 8]
+    ensures { λ r. ⌜ r ≡ gridOf n p (now (functions .entry)) node kind ⌝ }
+{
+    let mut table = [[0u16; 8]; 8];
+    let mut a = 0;
+    while a < 8 {
+        table[a] = grid_row(n, p, functions, node, kind, a);
+        a += 1;
+    }
+    table
+}
+
+// Whether a node accepts protocol x as a destination: it converts x, wraps x, or unwraps something from x.
+pub fn accepts(n: usize, p: usize, functions: &[u16], node: usize, x: usize) -> bool
+    ensures { λ r. ⌜ r ≡ receivesAt n p (now (functions .entry)) node x ⌝ }
+{
+    if 8 < p {
+        return false;
+    }
+    let mut y: usize = 0;
+    while y < p {
+        if 0 < word_at(n, p, functions, node, 0, x, y) {
+            return true;
+        }
+        if 0 < word_at(n, p, functions, node, 1, x, y) {
+            return true;
+        }
+        if 0 < word_at(n, p, functions, node, 2, y, x) {
+            return true;
+        }
+        y += 1;
+    }
+    false
+}

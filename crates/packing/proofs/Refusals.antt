@@ -1,0 +1,46 @@
+-- Refusals 1 to 3 of a table are within the range, and a table that is not refused is right.
+use Prim.Native.Nat.{_≤_}
+use native.Mathlib.Omega.{arith}
+use mathlib.Core.Path.{_≡_, refl}
+use mathlib.Core.Bool.{Bool, true, false, cond}
+use lib.Dec.{eqb}
+use borrow.Author.Tests.{eqb-true, eqb-false}
+use Rattle.network.specs.Network.{Network, stacks, refusalOf}
+use Rattle.network.specs.declared.Checked.{Checked}
+use Rattle.network.proofs.Laws.{refusal-most}
+use Rattle.table.specs.Table.{Table}
+use Rattle.table.specs.Answers.{okTable, refusal}
+use Rattle.table.proofs.Begins.{Ready, is-ready}
+use Rattle.packing.specs.Ranges.{RefusalFits}
+
+module _ (net : Network) (t : Table) where
+  pub refusal-few : refusal net t ≤ 3
+  unfolding refusal
+  refusal-few = go (eqb (refusalOf net) 0) (okTable net t)
+    where
+      go : (a b : Bool) → cond a (cond b 0 3) (refusalOf net) ≤ 3
+      go true true = omega arith
+      go true false = omega arith
+      go false b = omega (arith, refusal-most net)
+
+  refusal-fits : (refusal net t ≡ 0 → ⊥) → RefusalFits (refusal net t)
+  refusal-fits n = record { some = omega (arith, n); most = omega (arith, refusal-few) }
+
+  pub ready-then : refusal net t ≡ 0 → Ready net t (stacks net)
+  unfolding refusal
+  ready-then e = is-ready net t (stacks net) (go (eqb (refusalOf net) 0) refl (okTable net t) e)
+    where
+      go : (a : Bool) → eqb (refusalOf net) 0 ≡ a → (b : Bool) → cond a (cond b 0 3) (refusalOf net) ≡ 0
+          → cond a (cond b (Checked.Stacks (stacks net)) (Checked.Refused 3)) (Checked.Refused (refusalOf net)) ≡ Checked.Stacks (stacks net)
+      go true u true d = refl
+      go true u false d = absurd (omega arith)
+      go false u b d = absurd (eqb-false (refusalOf net) 0 u d)
+
+  -- what holds of a refusal and, in a table that is right, of what the call answers there, holds of its answer
+  pub by-refusal : {A : Type 0} (P : A → Type 0) (answer refused : A) → (Ready net t (stacks net) → P answer) → (RefusalFits (refusal net t) → P refused)
+      → P (cond (eqb (refusal net t) 0) answer refused)
+  by-refusal P answer refused f g = go (eqb (refusal net t) 0) refl
+    where
+      go : (b : Bool) → eqb (refusal net t) 0 ≡ b → P (cond b answer refused)
+      go true e = f (ready-then (eqb-true (refusal net t) 0 e))
+      go false e = g (refusal-fits (eqb-false (refusal net t) 0 e))

@@ -1,0 +1,223 @@
+-- What the tests of `step` answer, and what is known where they all hold.
+use Prim.Native.Nat.{ℕ, _+_, _-_, _*_, _≤_, _<_}
+use native.Mathlib.Nat.{mul-le-mul, mul-le-mul-right, suc-mul}
+use native.Mathlib.Omega.{arith}
+use mathlib.Core.Path.{_≡_, refl, sym, ap, _∙_}
+use mathlib.Core.List.{List}
+use mathlib.Core.Bool.{Bool, true, false, cond, _&&_}
+use lib.Arith.{digits-lt}
+use lib.ListN.{length, getD, drop}
+use lib.Seq.{getD-take, getD-drop}
+use lib.Dec.{leb, ltb, eqb}
+use borrow.Author.Tests.{ltb-true, leb-true, eqb-true, lt-ltb, le-leb, lt-leb}
+use borrow.Rule.Slice.PartMut.{midOf}
+use Rattle.lists.proofs.Tests.{both}
+use Rattle.bits.specs.Bits.{has}
+use Rattle.table.specs.Table.{Table, ceiling}
+use Rattle.table.proofs.Rows.{place-parts}
+use Rattle.step.specs.Step.{okSizes, okNumbers, at, told, waits, okSender, refusalOf}
+use Rattle.step.specs.Steps.{toldOf}
+use Rattle.step.specs.declared.Told.{Told}
+
+-- ---- the tests as facts
+pub record Sizes (n p s costs ways waits : ℕ) : Type 0 where
+  pub some : 1 ≤ p
+  pub few : p ≤ 8
+  pub nodes : n ≤ 32
+  pub bounded : s ≤ 16384
+  pub costs-are : costs ≡ n * (n * s)
+  pub ways-are : ways ≡ n * (n * s)
+  pub waits-are : waits ≡ n * (n * s)
+
+pub sizes : (n p s costs ways waits : ℕ) → okSizes n p s costs ways waits ≡ true → Sizes n p s costs ways waits
+unfolding okSizes
+sizes n p s costs ways waits e =
+    let a = both (leb 1 p) (leb p 8 && (leb n 32 && (leb s 16384 && (eqb costs (n * (n * s)) && (eqb ways (n * (n * s)) && eqb waits (n * (n * s))))))) e in
+    let b = both (leb p 8) (leb n 32 && (leb s 16384 && (eqb costs (n * (n * s)) && (eqb ways (n * (n * s)) && eqb waits (n * (n * s)))))) (a .1) in
+    let c = both (leb n 32) (leb s 16384 && (eqb costs (n * (n * s)) && (eqb ways (n * (n * s)) && eqb waits (n * (n * s))))) (b .1) in
+    let d = both (leb s 16384) (eqb costs (n * (n * s)) && (eqb ways (n * (n * s)) && eqb waits (n * (n * s)))) (c .1) in
+    let f = both (eqb costs (n * (n * s))) (eqb ways (n * (n * s)) && eqb waits (n * (n * s))) (d .1) in
+    let g = both (eqb ways (n * (n * s))) (eqb waits (n * (n * s))) (f .1) in
+    record {
+      some = leb-true 1 p (a .0);
+      few = leb-true p 8 (b .0);
+      nodes = leb-true n 32 (c .0);
+      bounded = leb-true s 16384 (d .0);
+      costs-are = eqb-true costs (n * (n * s)) (f .0);
+      ways-are = eqb-true ways (n * (n * s)) (g .0);
+      waits-are = eqb-true waits (n * (n * s)) (g .1);
+    }
+
+pub record Numbers (n s Q U D N : ℕ) : Type 0 where
+  pub sends : Q < n
+  pub hears : U < n
+  pub known : D < n
+  pub numbered : 1 ≤ N
+  pub within : N ≤ s
+
+pub numbers : (n s Q U D N : ℕ) → okNumbers n s Q U D N ≡ true → Numbers n s Q U D N
+unfolding okNumbers
+numbers n s Q U D N e =
+    let a = both (ltb Q n) (ltb U n && (ltb D n && (leb 1 N && leb N s))) e in
+    let b = both (ltb U n) (ltb D n && (leb 1 N && leb N s)) (a .1) in
+    let c = both (ltb D n) (leb 1 N && leb N s) (b .1) in
+    let d = both (leb 1 N) (leb N s) (c .1) in
+    record {
+      sends = ltb-true Q n (a .0);
+      hears = ltb-true U n (b .0);
+      known = ltb-true D n (c .0);
+      numbered = leb-true 1 N (d .0);
+      within = leb-true N s (d .1);
+    }
+
+-- ---- the sums of the code fit, the parts of sender and receiver are within the table, and the row is within the sender's
+pub record Room (n s Q U D N : ℕ) : Type 0 where
+  pub each : n * s ≤ 524288
+  pub all : n * (n * s) ≤ 16777216
+  pub sends : Q * (n * s) + n * s ≤ n * (n * s)
+  pub hears : U * (n * s) + n * s ≤ n * (n * s)
+  pub inner : D * s + (N - 1) < n * s
+  pub numbered : 1 ≤ N
+
+pub room : (n p s costs ways waits Q U D N : ℕ) → Sizes n p s costs ways waits → Numbers n s Q U D N → Room n s Q U D N
+room n p s costs ways waits Q U D N z k =
+    let each : n * s ≤ 524288 = omega (arith, mul-le-mul (z .nodes) (z .bounded)) in
+    let low : N - 1 < s = omega (arith, k .numbered, k .within) in
+    record {
+      each = each;
+      all = omega (arith, mul-le-mul (z .nodes) each);
+      sends = part-within Q (k .sends);
+      hears = part-within U (k .hears);
+      inner = digits-lt (k .known) low;
+      numbered = k .numbered;
+    }
+  where
+    part-within : (W : ℕ) → W < n → W * (n * s) + n * s ≤ n * (n * s)
+    part-within W b = omega (arith, mul-le-mul-right (n * s) b, suc-mul W (n * s))
+
+-- an element of a part, read in the whole
+pub in-whole : (xs : List ℕ) (from k i : ℕ) → i < k → getD (midOf from k xs) i 0 ≡ getD xs (from + i) 0
+in-whole xs from k i low = getD-take k (drop from xs) i 0 low ∙ getD-drop from xs i 0
+
+-- ---- what is answered at each test
+module _ (n p s link : ℕ) (t : Table) (Q U D N : ℕ) where
+  refused : (k : ℕ) → refusalOf n p s link t Q U D N ≡ k → eqb k 0 ≡ false → Told.Refused k ≡ toldOf n p s link t Q U D N
+  refused k e some = simp (e, some)
+
+  abbrev Fit : Type 0
+  Fit = okSizes n p s (length (t .cost)) (length (t .way)) (length (t .waiting)) ≡ true
+
+  pub bad-sizes : okSizes n p s (length (t .cost)) (length (t .way)) (length (t .waiting)) ≡ false → Told.Refused 3 ≡ toldOf n p s link t Q U D N
+  unfolding refusalOf
+  bad-sizes e = refused 3 (simp e) refl
+
+  pub bad-numbers : Fit → okNumbers n s Q U D N ≡ false → Told.Refused 4 ≡ toldOf n p s link t Q U D N
+  unfolding refusalOf
+  bad-numbers fit e = refused 4 (simp (fit, e)) refl
+
+  -- the place as the code works it out
+  module _ (fit : Fit) (good : okNumbers n s Q U D N ≡ true) (i : ℕ) (here : i ≡ Q * (n * s) + (D * s + (N - 1))) where
+    is-at : i ≡ at n p s link t Q U D N
+    is-at = here ∙ sym (place-parts n s Q D N)
+
+    has-here : has (getD (t .waiting) i 0) U ≡ has (getD (t .waiting) (at n p s link t Q U D N) 0) U
+    has-here = ap (λ (k : ℕ). has (getD (t .waiting) k 0) U) is-at
+
+    pub not-waiting : has (getD (t .waiting) i 0) U ≡ false → Told.Refused 5 ≡ toldOf n p s link t Q U D N
+    unfolding refusalOf waits
+    not-waiting e = refused 5 (simp (fit, good, sym has-here ∙ e)) refl
+
+    module _ (waiting : has (getD (t .waiting) i 0) U ≡ true) (c : ℕ) (costs : c ≡ getD (t .cost) i 0) where
+      there : has (getD (t .waiting) (at n p s link t Q U D N) 0) U ≡ true
+      there = sym has-here ∙ waiting
+
+      is-told : c ≡ told n p s link t Q U D N
+      is-told = costs ∙ ap (λ (k : ℕ). getD (t .cost) k 0) is-at
+
+      pub too-dear : ceiling < c → Told.Refused 7 ≡ toldOf n p s link t Q U D N
+      unfolding refusalOf waits okSender
+      too-dear high = refused 7 (simp (fit, good, there, lt-leb (told n p s link t Q U D N) ceiling (omega (arith, is-told)))) refl
+
+      pub no-link : c ≤ ceiling → link ≡ 0 → Told.Refused 7 ≡ toldOf n p s link t Q U D N
+      unfolding refusalOf waits okSender
+      no-link low none = refused 7 (simp (fit, good, there, le-leb (told n p s link t Q U D N) ceiling (omega (arith, is-told)), none)) refl
+
+      pub tells : c ≤ ceiling → (link ≡ 0 → ⊥) → Told.Row i c ≡ toldOf n p s link t Q U D N
+      unfolding refusalOf waits okSender
+      tells low some =
+          let linked : 0 < link = omega (arith, some) in
+          simp (fit, good, there, le-leb (told n p s link t Q U D N) ceiling (omega (arith, is-told)), lt-ltb 0 link linked, is-at, is-told)
+
+-- ---- and what the answers say
+none-refused : (a b c d : Bool) → _≡_ {A = ℕ} (cond a (cond b (cond c (cond d 0 7) 5) 4) 3) 0 → (a ≡ true) × (b ≡ true) × (c ≡ true) × (d ≡ true)
+none-refused true true true true e = (refl, refl, refl, refl)
+none-refused true true true false e = absurd (omega arith)
+none-refused true true false d e = absurd (omega arith)
+none-refused true false c d e = absurd (omega arith)
+none-refused false b c d e = absurd (omega arith)
+
+module _ (n p s link : ℕ) (t : Table) (Q U D N : ℕ) where
+  pub record Passed (i c : ℕ) : Type 0 where
+    pub nothing : refusalOf n p s link t Q U D N ≡ 0
+    pub place-is : i ≡ at n p s link t Q U D N
+    pub cost-is : c ≡ told n p s link t Q U D N
+    pub sized : Sizes n p s (length (t .cost)) (length (t .way)) (length (t .waiting))
+    pub numbered : Numbers n s Q U D N
+    pub priced : c ≤ ceiling
+
+  good : refusalOf n p s link t Q U D N ≡ 0
+      → (okSizes n p s (length (t .cost)) (length (t .way)) (length (t .waiting)) ≡ true) × (okNumbers n s Q U D N ≡ true) × (told n p s link t Q U D N ≤ ceiling)
+  unfolding refusalOf okSender
+  good z =
+      let r = none-refused (okSizes n p s (length (t .cost)) (length (t .way)) (length (t .waiting))) (okNumbers n s Q U D N) (waits n p s link t Q U D N) (okSender n p s link t Q U D N) z in
+      (r .0, r .1, leb-true (told n p s link t Q U D N) ceiling (both (leb (told n p s link t Q U D N) ceiling) (ltb 0 link) (r .3) .0))
+
+  pub passed : (i c : ℕ) → toldOf n p s link t Q U D N ≡ Told.Row i c → Passed i c
+  passed i c e = go (eqb (refusalOf n p s link t Q U D N) 0) refl e
+    where
+      go : (b : Bool) → eqb (refusalOf n p s link t Q U D N) 0 ≡ b
+          → cond b (Told.Row (at n p s link t Q U D N) (told n p s link t Q U D N)) (Told.Refused (refusalOf n p s link t Q U D N)) ≡ Told.Row i c → Passed i c
+      go true q d =
+          let z = eqb-true (refusalOf n p s link t Q U D N) 0 q in
+          let a : at n p s link t Q U D N ≡ i = cc in
+          let f : told n p s link t Q U D N ≡ c = cc in
+          record {
+            nothing = z;
+            place-is = sym a;
+            cost-is = sym f;
+            sized = sizes n p s (length (t .cost)) (length (t .way)) (length (t .waiting)) (good z .0);
+            numbered = numbers n s Q U D N (good z .1);
+            priced = omega (arith, f, good z .2);
+          }
+      go false q d = absurd (let z : _≡_ {A = ℕ} 0 1 = cc in omega arith)
+
+  pub stopped : (k : ℕ) → toldOf n p s link t Q U D N ≡ Told.Refused k → (eqb (refusalOf n p s link t Q U D N) 0 ≡ false) × (refusalOf n p s link t Q U D N ≡ k)
+  stopped k e = go (eqb (refusalOf n p s link t Q U D N) 0) refl e
+    where
+      go : (b : Bool) → eqb (refusalOf n p s link t Q U D N) 0 ≡ b
+          → cond b (Told.Row (at n p s link t Q U D N) (told n p s link t Q U D N)) (Told.Refused (refusalOf n p s link t Q U D N)) ≡ Told.Refused k
+          → (eqb (refusalOf n p s link t Q U D N) 0 ≡ false) × (refusalOf n p s link t Q U D N ≡ k)
+      go true q d = absurd (let z : _≡_ {A = ℕ} 0 1 = cc in omega arith)
+      go false q d = (q, (cc))
+
+-- ---- where they all hold: the sums fit, the row is in the table, and so is the receiver's part
+pub record Lends (n s U i costs ways waits : ℕ) : Type 0 where
+  pub all : n * (n * s) ≤ 16777216
+  pub hears : U * (n * s) + n * s ≤ n * (n * s)
+  pub inside : i < n * (n * s)
+  pub costs-are : costs ≡ n * (n * s)
+  pub ways-are : ways ≡ n * (n * s)
+  pub waits-are : waits ≡ n * (n * s)
+
+pub lends : (n p s link : ℕ) (t : Table) (Q U D N i c : ℕ) → Passed n p s link t Q U D N i c → Lends n s U i (length (t .cost)) (length (t .way)) (length (t .waiting))
+lends n p s link t Q U D N i c x =
+    let z = x .sized in
+    let r = room n p s (length (t .cost)) (length (t .way)) (length (t .waiting)) Q U D N z (x .numbered) in
+    record {
+      all = r .all;
+      hears = r .hears;
+      inside = omega (arith, r .sends, r .inner, x .place-is, place-parts n s Q D N);
+      costs-are = z .costs-are;
+      ways-are = z .ways-are;
+      waits-are = z .waits-are;
+    }

@@ -1,0 +1,189 @@
+// One delivery to a gateway that is handed over as numbers and grids. Total: the contract is an equation with definitions of specs/Step.antt.
+ghost use mathlib.Core.Path.{_≡_};
+ghost use Prim.Native.Nat.{_<_};
+ghost use lib.ListN.{length, getD};
+ghost use Rattle.hear.specs.Answers.{gatewayOf};
+ghost use Rattle.table.specs.Table.{tableOf};
+ghost use Rattle.step.specs.Step.{okSizes, okNumbers, Steps};
+ghost use Rattle.step.specs.Steps.{toldOf, answerIn};
+use hear::Heard;
+use table::Delivered;
+
+// What the message tells of: where the sender's row stands and what it costs; or the refusal's number.
+enum Told {
+    Row(usize, u32),
+    Refused(u32),
+}
+
+fn good_sizes(n: usize, p: usize, stacks: usize, costs: usize, ways: usize, waits: usize) -> bool
+    ensures { λ r. ⌜ r ≡ okSizes n p stacks costs ways waits ⌝ }
+{
+    if p < 1 {
+        return false;
+    }
+    if 8 < p {
+        return false;
+    }
+    if 32 < n {
+        return false;
+    }
+    if 16384 < stacks {
+        return false;
+    }
+    let rows = n * (n * stacks);
+    if costs != rows {
+        return false;
+    }
+    if ways != rows {
+        return false;
+    }
+    waits == rows
+}
+
+fn good_numbers(
+    n: usize,
+    stacks: usize,
+    sender: usize,
+    receiver: usize,
+    destination: usize,
+    number: usize,
+) -> bool
+    ensures { λ r. ⌜ r ≡ okNumbers n stacks sender receiver destination number ⌝ }
+{
+    if n <= sender {
+        return false;
+    }
+    if n <= receiver {
+        return false;
+    }
+    if n <= destination {
+        return false;
+    }
+    if number < 1 {
+        return false;
+    }
+    number <= stacks
+}
+
+// A row's cost. It is lent the rows of one gateway, the sender, and no others.
+fn read_cost(rows: &[u32], at: usize) -> u32
+    requires { ⌜ at < length (now rows) ⌝ }
+    ensures { λ r. ⌜ r ≡ getD (now (rows .entry)) at 0 ⌝ }
+{
+    rows[at]
+}
+
+// The tests, which only read.
+fn read_row(
+    n: usize,
+    p: usize,
+    stacks: usize,
+    cost: &[u32],
+    way: &[u16],
+    waiting: &[u32],
+    link: u16,
+    sender: usize,
+    receiver: usize,
+    destination: usize,
+    number: usize,
+) -> Told
+    ensures { λ r. ⌜ r ≡ toldOf n p stacks link (tableOf (now (cost .entry)) (now (way .entry)) (now (waiting .entry))) sender receiver destination number ⌝ }
+{
+    if !good_sizes(n, p, stacks, cost.len(), way.len(), waiting.len()) {
+        return Told::Refused(3);
+    }
+    if !good_numbers(n, stacks, sender, receiver, destination, number) {
+        return Told::Refused(4);
+    }
+    let rows = n * stacks;
+    let start = sender * rows;
+    let end = start + rows;
+    let at = destination * stacks + (number - 1);
+    let place = start + at;
+    if !bits::has(waiting[place], receiver) {
+        return Told::Refused(5);
+    }
+    let told = read_cost(&cost[start..end], at);
+    if 2147303427 < told {
+        return Told::Refused(7);
+    }
+    if link == 0 {
+        return Told::Refused(7);
+    }
+    Told::Row(place, told)
+}
+
+// The receiver's answer is the delivery's.
+fn answer(heard: Heard) -> Delivered
+    ensures { λ r. ⌜ r ≡ answerIn heard ⌝ }
+{
+    match heard {
+        Heard::Rows(taken) => Delivered::Rows(taken),
+        Heard::Refused(refusal) => Delivered::Refused(refusal),
+    }
+}
+
+// One waiting message is delivered to a receiver with these neighbours and grids, over a link that costs `link` back: the sender's bit is
+// cleared, and the receiver's rows, lent only after the sender's cost is read, take the offers that are cheaper.
+pub fn step(
+    n: usize,
+    p: usize,
+    stacks: usize,
+    cost: &mut [u32],
+    way: &mut [u16],
+    waiting: &mut [u32],
+    neighbours: u32,
+    convert: [[u16; 8]; 8],
+    wrap: [[u16; 8]; 8],
+    unwrap: [[u16; 8]; 8],
+    link: u16,
+    sender: usize,
+    receiver: usize,
+    destination: usize,
+    number: usize,
+) -> Delivered
+    ensures { λ r.
+        ⌜
+        Steps n (gatewayOf p stacks neighbours convert wrap unwrap) link (tableOf (now (cost .entry)) (now (way .entry)) (now (waiting .entry))) sender receiver destination number
+        r (tableOf (now (cost .exit)) (now (way .exit)) (now (waiting .exit)))
+        ⌝ }
+{
+    match read_row(
+        n,
+        p,
+        stacks,
+        &cost[..],
+        &way[..],
+        &waiting[..],
+        link,
+        sender,
+        receiver,
+        destination,
+        number,
+    ) {
+        Told::Row(place, told) => {
+            let word = waiting[place];
+            waiting[place] = bits::without(word, receiver);
+            let rows = n * stacks;
+            let from = receiver * rows;
+            let to = from + rows;
+            answer(hear::hear(
+                p,
+                stacks,
+                neighbours,
+                convert,
+                wrap,
+                unwrap,
+                sender,
+                destination,
+                number,
+                told,
+                link,
+                &mut cost[from..to],
+                &mut way[from..to],
+                &mut waiting[from..to],
+            ))
+        }
+        Told::Refused(refusal) => Delivered::Refused(refusal),
+    }
+}

@@ -1,0 +1,3 @@
+-- The definitions of crate table_exports.
+pub mod Packing
+pub mod Ranges
