@@ -72,15 +72,19 @@ packet_hops() {
     check 'a packet of another version' hop_refused 'refused 62 (wrong version): header 0 from outside, at byte 0' printf 'packets have a version number'
 }
 
+# the packets, and what tshark makes of them: no library is needed
+make_packets() {
+    printf '== packets made by scapy and taken apart by tshark\n'
+    check 'packets are made by scapy' "${python[@]}" tests/headers/make.py "$packets" "$seed"
+    check 'tshark takes the packets apart' "${python[@]}" tests/headers/tshark_reading.py "$packets"
+}
+
 read_packets() {
     local program
     printf '== packets read, beside an independent reader, tshark and scapy\n'
-    prepare_packets
     check 'the program that reads packets compiles without a warning' quietly "${c_compiler[@]}" -std=c99 -Wall -Wextra -pedantic -O2 -Iinclude \
         -o "$out/headers" tests/headers/answers.c "$library/libbannogwy.a"
-    check 'packets are made by scapy' "${python[@]}" tests/headers/make.py "$packets" "$seed"
     check 'packets are answered, and nothing beside the slices is touched' packets_answered
-    check 'tshark takes the packets apart' "${python[@]}" tests/headers/tshark_reading.py "$packets"
     for program in reader tshark scapy; do
         beside "packets agree with $program" packets_agree "$program"
     done

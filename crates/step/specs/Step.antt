@@ -65,6 +65,7 @@ module _ (n : ℕ) (g : Gateway) (link : ℕ) (t : Table) (Q U D N : ℕ) where
   unfoldable pub tableAfter : Table
   tableAfter = cond (eqb refusal 0) (withRowsIn (n * g .most) U cleared (heard g message rows)) t
 
+  -- both
   pub record Steps (answer : Delivered) (after : Table) : Type 0 where
     pub answers : answer ≡ answerOf
     pub table : after ≡ tableAfter
