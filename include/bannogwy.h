@@ -90,9 +90,10 @@ uint64_t bannogwy_first_waiting(BANNOGWY_NETWORK, BANNOGWY_TABLE_READ);
 /* Delivers one message; answers how many rows took an offer, or a refusal (1, 2, 3, 4, 5, 7). */
 uint64_t bannogwy_deliver(BANNOGWY_NETWORK, BANNOGWY_TABLE_WRITE, size_t sender, size_t receiver, size_t destination, size_t number);
 
-/* Delivers in table order until quiet or until `limit` are done. answer[0]: deliveries done, below the limit where no message waits any more; answer[1]: rows that took an offer; what stands
- * behind them stays. Answers 0, or a refusal (1, 2, 3, then both are 0; 9 where answer_len is below 2), or the refusal of a delivery in a broken
- * table (4, 7), which ends the run: what was delivered before it is kept and counted. */
+/* Delivers in table order until quiet or until `limit` are done. answer[0]: deliveries done; where it is below the limit and nothing is refused, no
+ * message waits any more. answer[1]: rows that took an offer; what stands behind them stays. Answers 0, or a refusal (1, 2, 3, then both are 0; 9
+ * where answer_len is below 2), or the refusal of a delivery in a broken table (4, 7), which ends the run: what was delivered before it is kept and
+ * counted. */
 uint64_t bannogwy_run(BANNOGWY_NETWORK, BANNOGWY_TABLE_WRITE, uint32_t limit, uint64_t *answer, size_t answer_len);
 
 /* The next hop of a packet at `node` for `destination` with this stack: 0 where it is delivered here (node is destination and the stack is one

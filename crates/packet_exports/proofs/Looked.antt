@@ -1,4 +1,4 @@
--- What lookup answers is within the ranges.
+-- What lookup answers is within the ranges, and a C caller reads it back.
 use Prim.Native.Nat.{ℕ}
 use native.Mathlib.Omega.{arith}
 use mathlib.Core.Path.{_≡_, refl}

@@ -11,7 +11,7 @@ packRefused refusal = 2 ^ 63 + refusal
 abbrev pub packEnd : ℕ → ℕ
 packEnd refusal = cond (eqb refusal 0) 0 (packRefused refusal)
 
--- ---- the parts read back: IS_REFUSED, REFUSAL, IS_FOUND, FIRST_SENDER or NEXT_NODE, FIRST_RECEIVER or FUNCTION, FIRST_DESTINATION,
+-- ---- the parts read back: IS_REFUSED, REFUSAL where that says so, IS_FOUND, FIRST_SENDER or NEXT_NODE, FIRST_RECEIVER or FUNCTION, FIRST_DESTINATION,
 -- FIRST_NUMBER or COST, and NUMBER
 abbrev pub isRefused : ℕ → ℕ
 isRefused x = x / 2 ^ 63

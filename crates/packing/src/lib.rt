@@ -2,6 +2,7 @@
 ghost use mathlib.Core.Path.{_≡_};
 ghost use Rattle.packing.specs.Packing.{packEnd, packRefused};
 
+// The refusal's number with the top bit set.
 pub fn packed_refused(refusal: u32) -> u64
     ensures { λ r. ⌜ r ≡ packRefused refusal ⌝ }
 {
