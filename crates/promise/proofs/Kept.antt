@@ -4,6 +4,7 @@ use Rattle.promise.specs.Promise.{Promise}
 use Rattle.promise.proofs.Reaching.{begins, reached-refusal}
 use Rattle.promise.proofs.Carrying.{carried-on}
 use Rattle.promise.proofs.Least.{attained, least, no-route}
+use Rattle.promise.proofs.NoWays.{no-way, home-kept}
 use Rattle.promise.proofs.Refusals.{ceiling-kept, delivers, never-7}
 use Rattle.promise.proofs.Hopping.{carry-never-7, never-8}
 use Rattle.promise.proofs.Running.{run-later, run-reached}
@@ -26,6 +27,8 @@ kept net ok = record {
   no-route = λ t U D stack r q k. read-as (lookupOf net t U D stack) 5 (no-route net ok t U D stack r q k);
   found = found net ok;
   quiet-said = quiet-said net ok;
+  no-way = no-way net ok;
+  home-kept = home-kept net ok;
   ceiling-kept = ceiling-kept net ok;
   delivers = delivers net ok;
   never-7 = λ t U D stack r e. never-7 net ok t U D stack r (refused-is (lookupOf net t U D stack) 6 e);

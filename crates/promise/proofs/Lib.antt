@@ -5,6 +5,7 @@ pub mod Onward
 pub mod Looking
 pub mod Homes
 pub mod Carrying
+pub mod NoWays
 pub mod Refusals
 pub mod Silence
 pub mod Routing

@@ -5,9 +5,10 @@ use mathlib.Core.Logic.{_≢_, _↔_, _⊎_}
 use mathlib.Core.List.{List, [], _∷_}
 use mathlib.Core.Bool.{true}
 use lib.ListN.{getD}
+use Rattle.stacks.specs.Stacks.{number}
 use Rattle.network.specs.Network.{Network, stacks}
 use Rattle.gateways.specs.Gateways.{accepts}
-use Rattle.table.specs.Table.{Table, noRow, ceiling, place}
+use Rattle.table.specs.Table.{Table, noRow, noWay, ceiling, place}
 use Rattle.table.specs.Answers.{refusal, freshTable, firstAnswer, okMessage, waits, stepRefusal}
 use Rattle.table.specs.Run.{runOf}
 use Rattle.table.specs.declared.First.{First}
@@ -45,6 +46,12 @@ module _ (net : Network) where
         ⊎ ((W : ℕ) × (f : ℕ) × (M : ℕ) × (c : ℕ) × (lookupOf net t U D stack ≡ Look.Forward W f M c) × (c ≤ cost))
     -- and "no message waits" can be asked: first waiting says quiet exactly there.
     pub quiet-said : (t : Table) → Reached net t → (firstAnswer net t ≡ First.Quiet) ↔ Quiet net t
+    -- WHAT THE ROWS HOLD. The way is "65,535 where there is no row", about which no message waits,
+    pub no-way : (t : Table) (U D N : ℕ) → Reached net t → getD (t .cost) (place net U D N) 0 ≡ noRow → U < net .n → D < net .n → 1 ≤ N → N ≤ stacks net
+        → (getD (t .way) (place net U D N) 0 ≡ noWay) × (getD (t .waiting) (place net U D N) 0 ≡ 0)
+    -- "or the packet is delivered here": for each protocol that D accepts its own row keeps cost 0 and that way.
+    pub home-kept : (t : Table) (D x : ℕ) → Reached net t → accepts net D x ≡ true
+        → (getD (t .cost) (place net D D (number (net .p) (x ∷ []))) 0 ≡ 0) × (getD (t .way) (place net D D (number (net .p) (x ∷ []))) 0 ≡ noWay)
     -- NEVER 7 OR 8 FROM FRESH. No cost is above the ceiling,
     pub ceiling-kept : (t : Table) (U D N : ℕ) → Reached net t → getD (t .cost) (place net U D N) 0 ≢ noRow → U < net .n → D < net .n → 1 ≤ N → N ≤ stacks net
         → getD (t .cost) (place net U D N) 0 ≤ ceiling
