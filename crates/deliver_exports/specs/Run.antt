@@ -3,12 +3,12 @@ use Prim.Native.Nat.{ℕ}
 use mathlib.Core.Path.{_≡_}
 use mathlib.Core.List.{List}
 use mathlib.Core.Bool.{Bool, cond}
-use lib.ListN.{length, set}
+use lib.ListN.{length, getD, set}
 use lib.Dec.{leb}
 use Rattle.network.specs.Network.{Network}
 use Rattle.table.specs.Table.{Table}
-use Rattle.table.specs.Run.{runOf}
-use Rattle.packing.specs.Packing.{packRefused, packEnd}
+use Rattle.table.specs.Run.{Outcome, runOf}
+use Rattle.packing.specs.Packing.{packRefused, packEnd, endIn}
 
 module _ (net : Network) (limit : ℕ) (t : Table) (answer : List ℕ) where
   abbrev pub okRoom : Bool
@@ -29,3 +29,7 @@ pub record RunExported (net : Network) (limit : ℕ) (t : Table) (answer : List 
   pub answers : r ≡ runPacked net limit t answer
   pub table : after ≡ runTable net limit t answer
   pub written : numbers ≡ runNumbers net limit t answer
+
+-- an outcome as a C caller reads it back from the answer, the two numbers and the table, where the slice had room for them
+unfoldable pub unpackRun : ℕ → List ℕ → Table → Outcome
+unpackRun r numbers after = record { done = getD numbers 0 0; offers = getD numbers 1 0; refused = endIn r; table = after }

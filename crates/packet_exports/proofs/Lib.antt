@@ -2,5 +2,6 @@
 pub mod Unpacked
 pub mod Looked
 pub mod Fours
+pub mod CarryAnswers
 pub mod ReadAnswers
 pub mod Examples

@@ -8,7 +8,7 @@ use lib.Dec.{leb, eqb}
 use Rattle.forward.specs.Forward.{Journey}
 use Rattle.headers.specs.Answers.{readOf, outOf}
 use Rattle.headers.specs.declared.Read.{Read}
-use Rattle.packing.specs.Packing.{packRefused, packEnd, isRefused, refusalIn}
+use Rattle.packing.specs.Packing.{packRefused, packEnd, isRefused, refusalIn, endIn}
 use Rattle.packet_exports.specs.declared.four.Four.{Four}
 
 abbrev pub okAnswer : List ℕ → Bool
@@ -46,3 +46,7 @@ unfoldable pub unpackRead : ℕ → List ℕ → Read
 unpackRead r numbers =
     cond (eqb (isRefused r) 0) (Read.Stack (getD numbers 0 0) (getD numbers 1 0) (getD numbers 2 0) (getD numbers 3 0))
     (Read.Refused (refusalIn r) (getD numbers 0 0) (getD numbers 1 0))
+
+-- and so a journey
+unfoldable pub unpackCarry : ℕ → List ℕ → Journey
+unpackCarry r numbers = record { hops = getD numbers 0 0; spent = getD numbers 1 0; node = getD numbers 2 0; number = getD numbers 3 0; refused = endIn r }

@@ -19,6 +19,10 @@ isRefused x = x / 2 ^ 63
 abbrev pub refusalIn : ℕ → ℕ
 refusalIn x = x % 256
 
+-- how a call ended: 0 where nothing is refused
+abbrev pub endIn : ℕ → ℕ
+endIn x = cond (eqb (isRefused x) 0) 0 (refusalIn x)
+
 abbrev pub isFound : ℕ → ℕ
 isFound x = x / 2 ^ 62 % 2
 
