@@ -44,7 +44,7 @@ one d x y p q = p ∙ sym q
 pub both : {A B : Type 0} (d : A) (e : B) → OneBoth (λ x u. (x ≡ d) × (u ≡ e))
 both d e x y u v p q = (p .0 ∙ sym (q .0), p .1 ∙ sym (q .1))
 
--- ---- stacks
+-- ---- stacks and functions
 pub stack-count : (p h : ℕ) → One (λ (r : Answer). r ≡ countOf p h)
 stack-count p h = one (countOf p h)
 
