@@ -2,14 +2,14 @@
 use Prim.Native.Nat.{ℕ, _+_, _*_, _≤_, _<_}
 use native.Mathlib.Omega.{arith}
 use mathlib.Core.Path.{_≡_, refl, sym, _∙_}
-use mathlib.Core.Bool.{Bool, true, false, cond, _&&_, and-assoc}
+use mathlib.Core.Bool.{Bool, true, false, _&&_, and-assoc}
 use lib.ListN.{length}
 use lib.Dec.{leb, ltb, eqb}
 use borrow.Author.Tests.{leb-true, ltb-true, eqb-true, ne-eqb}
+use Rattle.lists.specs.Lists.{unless}
 use Rattle.lists.proofs.Tests.{both}
 use Rattle.hear.specs.Hearing.{Gateway, Message, Rows, heard, taken}
-use Rattle.hear.specs.Answers.{okHearing, refusalOf, rowsAfter, Hears}
-use Rattle.hear.specs.Steps.{goodNumbers, goodLengths, refusedBy}
+use Rattle.hear.specs.Answers.{goodNumbers, goodLengths, okHearing, ceiling, refusedBy, refusalOf, rowsAfter, Hears}
 use Rattle.hear.specs.declared.Heard.{Heard}
 
 -- ---- the tests as facts
@@ -23,7 +23,6 @@ pub record Numbers (p most sender destination number : ℕ) : Type 0 where
   pub within : number ≤ most
 
 pub numbers : (p most sender destination number : ℕ) → goodNumbers p most sender destination number ≡ true → Numbers p most sender destination number
-unfolding goodNumbers
 numbers p most sender destination number e =
     let s = both (leb 1 p) (leb p 8 && (leb most 16384 && (ltb sender 32 && (ltb destination 32 && (leb 1 number && leb number most))))) e in
     let t = both (leb p 8) (leb most 16384 && (ltb sender 32 && (ltb destination 32 && (leb 1 number && leb number most)))) (s .1) in
@@ -46,21 +45,19 @@ pub record Lengths (most destination cost costs ways waiting : ℕ) : Type 0 whe
   pub wide : (destination + 1) * most ≤ costs
   pub ways-long : ways ≡ costs
   pub waiting-long : waiting ≡ costs
-  pub priced : cost ≤ 2147303427
+  pub priced : cost ≤ ceiling
 
 -- the code's tests of the numbers and of the lengths
 pub numbers-same : (p most sender destination number : ℕ)
     → ((((((leb 1 p && leb p 8) && leb most 16384) && ltb sender 32) && ltb destination 32) && leb 1 number) && leb number most)
     ≡ goodNumbers p most sender destination number
-unfolding goodNumbers
 numbers-same p most sender destination number = simp and-assoc
 
 pub lengths-same : (most destination costs ways waiting : ℕ)
     → ((leb ((destination + 1) * most) costs && eqb ways costs) && eqb waiting costs) ≡ goodLengths most destination costs ways waiting
-unfolding goodLengths
 lengths-same most destination costs ways waiting = simp and-assoc
 
-no-refusal : (a b : Bool) → _≡_ {A = ℕ} (cond a (cond b 0 7) 4) 0 → (a ≡ true) × (b ≡ true)
+no-refusal : (a b : Bool) → unless a 4 (unless b 7 0) ≡ 0 → (a ≡ true) × (b ≡ true)
 no-refusal true true e = (refl, refl)
 no-refusal true false e = absurd (omega arith)
 no-refusal false b e = absurd (omega arith)
@@ -74,11 +71,11 @@ module _ (g : Gateway) (m : Message) (r : Rows) where
   refused = refusedBy (g .p) (g .most) (m .sender) (m .destination) (m .number) (m .cost) (length (r .costs)) (length (r .ways)) (length (r .waiting))
 
   pub passed : refused ≡ 0 → Passed
-  unfolding refusedBy goodLengths
+  unfolding okHearing
   passed e =
       let a = no-refusal (goodNumbers (g .p) (g .most) (m .sender) (m .destination) (m .number)
       && (leb ((m .destination + 1) * g .most) (length (r .costs)) && (eqb (length (r .ways)) (length (r .costs)) && eqb (length (r .waiting)) (length (r .costs)))))
-      (leb (m .cost) 2147303427) e in
+      (leb (m .cost) ceiling) e in
       let b = both (goodNumbers (g .p) (g .most) (m .sender) (m .destination) (m .number))
       (leb ((m .destination + 1) * g .most) (length (r .costs)) && (eqb (length (r .ways)) (length (r .costs)) && eqb (length (r .waiting)) (length (r .costs)))) (a .0) in
       let d = both (leb ((m .destination + 1) * g .most) (length (r .costs))) (eqb (length (r .ways)) (length (r .costs)) && eqb (length (r .waiting)) (length (r .costs))) (b .1) in
@@ -89,13 +86,13 @@ module _ (g : Gateway) (m : Message) (r : Rows) where
           wide = leb-true ((m .destination + 1) * g .most) (length (r .costs)) (d .0);
           ways-long = eqb-true (length (r .ways)) (length (r .costs)) (t .0);
           waiting-long = eqb-true (length (r .waiting)) (length (r .costs)) (t .1);
-          priced = leb-true (m .cost) 2147303427 (a .1);
+          priced = leb-true (m .cost) ceiling (a .1);
         };
       }
 
   refusal-same : refusalOf g m r ≡ refused
-  unfolding refusalOf okHearing refusedBy goodNumbers goodLengths
-  refusal-same = simp and-assoc
+  unfolding refusalOf
+  refusal-same = refl
 
   pub refuses : (k : ℕ) → k ≡ refused → (k ≡ 0 → ⊥) → Hears g m r (Heard.Refused k) r
   unfolding rowsAfter

@@ -17,6 +17,7 @@ use Rattle.relax.specs.Graph.{wins}
 use Rattle.functions.specs.Answers.{movedOf}
 use Rattle.functions.specs.declared.After.the-variants.{Number}
 use Rattle.hear.specs.Hearing.{Gateway, Message, Rows, leadsBy, leader, leaderAt, offer, takes, costAt, wayAt, waitingAt, heard, taken}
+use Rattle.hear.specs.Answers.{ceiling}
 use Rattle.hear.proofs.Leaders.{leader-found, leader-only}
 use Rattle.hear.proofs.Below.{rows-eq, takes-says}
 
@@ -77,7 +78,7 @@ module _ (g : Gateway) (m : Message) where
       (simp e, simp e, simp e)
 
   -- No offer reaches "no row".
-  pub offer-fits : (f : ℕ) → m .cost ≤ 2147303427 → m .link < 65536 → g .words f < 65536 → offer g m f < 4294967295
+  pub offer-fits : (f : ℕ) → m .cost ≤ ceiling → m .link < 65536 → g .words f < 65536 → offer g m f < 4294967295
   unfolding offer
   offer-fits f cost link word = omega arith
 

@@ -5,6 +5,7 @@ use mathlib.Core.List.{List, []}
 use mathlib.Core.Bool.{Bool, cond, _&&_}
 use lib.ListN.{length, getD}
 use lib.Dec.{leb, ltb, eqb}
+use Rattle.lists.specs.Lists.{unless}
 use Rattle.functions.specs.Functions.{kindOf, fromOf, toOf}
 use Rattle.hear.specs.Hearing.{Gateway, Message, Rows, heard, taken}
 use Rattle.hear.specs.declared.Heard.{Heard}
@@ -27,17 +28,32 @@ messageOf sender destination number cost link = record { sender = sender; destin
 abbrev pub rowsOf : List ℕ → List ℕ → List ℕ → Rows
 rowsOf costs ways waiting = record { costs = costs; ways = ways; waiting = waiting }
 
--- sizes in range, a stack number in range, and rows enough for the destination
-unfoldable pub okHearing : Gateway → Message → Rows → Bool
-okHearing g m r =
-    leb 1 (g .p) && (leb (g .p) 8 && (leb (g .most) 16384
-    && (ltb (m .sender) 32 && (ltb (m .destination) 32 && (leb 1 (m .number) && (leb (m .number) (g .most)
-    && (leb ((m .destination + 1) * g .most) (length (r .costs))
-    && (eqb (length (r .ways)) (length (r .costs)) && eqb (length (r .waiting)) (length (r .costs))))))))))
+-- sizes in range, and numbers of nodes and of a stack in range
+abbrev pub goodNumbers : ℕ → ℕ → ℕ → ℕ → ℕ → Bool
+goodNumbers p most sender destination number =
+    leb 1 p && (leb p 8 && (leb most 16384 && (ltb sender 32 && (ltb destination 32 && (leb 1 number && leb number most)))))
+
+-- rows enough for the destination, and as many ways and waiting words as costs
+abbrev pub goodLengths : ℕ → ℕ → ℕ → ℕ → ℕ → Bool
+goodLengths most destination costs ways waiting = leb ((destination + 1) * most) costs && (eqb ways costs && eqb waiting costs)
+
+-- both
+unfoldable pub okHearing : ℕ → ℕ → ℕ → ℕ → ℕ → ℕ → ℕ → ℕ → Bool
+okHearing p most sender destination number costs ways waiting =
+    goodNumbers p most sender destination number && goodLengths most destination costs ways waiting
+
+-- the greatest cost that a message may tell
+abbrev pub ceiling : ℕ
+ceiling = 2147303427
 
 -- refusal 4 but where that holds, then 7 where the cost is above the ceiling
+abbrev pub refusedBy : ℕ → ℕ → ℕ → ℕ → ℕ → ℕ → ℕ → ℕ → ℕ → ℕ
+refusedBy p most sender destination number cost costs ways waiting =
+    unless (okHearing p most sender destination number costs ways waiting) 4 (unless (leb cost ceiling) 7 0)
+
 unfoldable pub refusalOf : Gateway → Message → Rows → ℕ
-refusalOf g m r = cond (okHearing g m r) (cond (leb (m .cost) 2147303427) 0 7) 4
+refusalOf g m r =
+    refusedBy (g .p) (g .most) (m .sender) (m .destination) (m .number) (m .cost) (length (r .costs)) (length (r .ways)) (length (r .waiting))
 
 abbrev pub answerOf : Gateway → Message → Rows → Heard
 answerOf g m r = cond (eqb (refusalOf g m r) 0) (Heard.Rows (taken g m r)) (Heard.Refused (refusalOf g m r))

@@ -1,9 +1,10 @@
 -- What the private functions answer, and what they may count on.
 use Prim.Native.Nat.{ℕ, _+_, _-_, _*_, _≤_, _<_}
 use mathlib.Core.Path.{_≡_}
-use mathlib.Core.Bool.{Bool, cond, _&&_}
-use lib.Dec.{leb, ltb, eqb}
+use mathlib.Core.Bool.{cond, _&&_}
+use lib.Dec.{leb, ltb}
 use Rattle.stacks.specs.Stacks.{top, rest}
+use Rattle.hear.specs.Answers.{ceiling}
 use Rattle.hear.specs.declared.Candidate.{Candidate}
 use Rattle.hear.specs.declared.Offer.{Offer}
 
@@ -51,22 +52,7 @@ pub record Priced (most sender destination cost : ℕ) (c : Candidate) : Type 0 
   pub bounded : most ≤ 16384
   pub sends : sender < 32
   pub known : destination < 32
-  pub priced : cost ≤ 2147303427
+  pub priced : cost ≤ ceiling
   pub kinds : c .kind < 3
   pub froms : c .from < 8
   pub tos : c .to < 8
-
--- ---- the refusals
--- the two halves of `okHearing`: the numbers, and the lengths of the rows
-unfoldable pub goodNumbers : ℕ → ℕ → ℕ → ℕ → ℕ → Bool
-goodNumbers p most sender destination number =
-    leb 1 p && (leb p 8 && (leb most 16384 && (ltb sender 32 && (ltb destination 32 && (leb 1 number && leb number most)))))
-
-unfoldable pub goodLengths : ℕ → ℕ → ℕ → ℕ → ℕ → Bool
-goodLengths most destination costs ways waiting =
-    leb ((destination + 1) * most) costs && (eqb ways costs && eqb waiting costs)
-
--- `refusalOf` of those numbers and lengths
-unfoldable pub refusedBy : ℕ → ℕ → ℕ → ℕ → ℕ → ℕ → ℕ → ℕ → ℕ → ℕ
-refusedBy p most sender destination number cost costs ways waiting =
-    cond (goodNumbers p most sender destination number && goodLengths most destination costs ways waiting) (cond (leb cost 2147303427) 0 7) 4

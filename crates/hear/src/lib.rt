@@ -1,7 +1,7 @@
-// A gateway hears a message: it offers itself every row that leads to the stack heard of. Total; the contract is in specs/Answers.antt.
+// A gateway hears a message: each row from which a function leads to the stack heard of gets an offer. Total; the contract is in specs/Answers.antt.
 ghost use mathlib.Core.Path.{_≡_};
-ghost use Rattle.hear.specs.Answers.{gatewayOf, messageOf, rowsOf, Hears};
-ghost use Rattle.hear.specs.Steps.{candidateOf, offerOf, refusedBy, Parted, Priced};
+ghost use Rattle.hear.specs.Answers.{gatewayOf, messageOf, rowsOf, refusedBy, Hears};
+ghost use Rattle.hear.specs.Steps.{candidateOf, offerOf, Parted, Priced};
 
 // How many rows took an offer, or the refusal's number.
 pub enum Heard {

@@ -4,7 +4,7 @@ use mathlib.Core.List.{List}
 use mathlib.Core.Bool.{Bool, cond, _&&_, not}
 use lib.ListN.{length, getD}
 use lib.Dec.{leb, ltb, eqb}
-use Rattle.lists.specs.Lists.{every}
+use Rattle.lists.specs.Lists.{every, unless}
 use Rattle.stacks.specs.Stacks.{okSize, count}
 use Rattle.bits.specs.Bits.{wordOf}
 
@@ -62,4 +62,4 @@ okLinks net = every (net .n) (λ U. eqb (link net U U) 0 && every (net .n) (λ W
 
 -- the first refusal that applies to the network; 0 where none does
 unfoldable pub refusalOf : Network → ℕ
-refusalOf net = cond (okSizes net) (cond (okLinks net) 0 2) 1
+refusalOf net = unless (okSizes net) 1 (unless (okLinks net) 2 0)

@@ -5,7 +5,7 @@ use native.Mathlib.Omega.{arith}
 use mathlib.Core.Path.{_≡_, sym, _∙_}
 use mathlib.Core.Bool.{true, and-false}
 use borrow.Author.Tests.{not-true, not-false, le-leb, lt-leb}
-use Rattle.hear.specs.Steps.{goodNumbers, goodLengths, refusedBy}
+use Rattle.hear.specs.Answers.{goodNumbers, goodLengths, okHearing}
 use Rattle.hear.proofs.Answers.{Numbers, numbers, numbers-same, lengths-same}
 use Rattle.hear.proofs.refusal_of.Statement.{statement}
 use Rattle.hear.proofs.refusal_of.Tie as tie
@@ -25,7 +25,7 @@ lengths c =
     sym (lengths-same (a .most) (a .destination) (a .costs) (a .ways) (a .waiting)) ∙ not-false _ (c .if2 .left)
 
 returns : tie.Need-returns
-unfolding refusedBy
+unfolding okHearing
 returns c =
     let a = c .before .args in
     simp (sym (numbers-same (a .p) (a .most) (a .sender) (a .destination) (a .number)) ∙ not-true _ (c .if1 .taken))
@@ -39,17 +39,17 @@ mul-if2 c =
     omega (arith, mul-le-mul {n₁ = a .destination + 1} {m₁ = a .most} {n₂ = 32} {m₂ = 16384} (omega (arith, numbered c .known)) (numbered c .bounded))
 
 returns-2 : tie.Need-returns-2
-unfolding refusedBy
+unfolding okHearing
 returns-2 c =
     let a = c .before .before .args in
     simp (sym (lengths-same (a .most) (a .destination) (a .costs) (a .ways) (a .waiting)) ∙ not-true _ (c .if2 .taken), and-false)
 
 returns-3 : tie.Need-returns-3
-unfolding refusedBy
+unfolding okHearing
 returns-3 c = simp (good (c .before .before), lengths (c .before), lt-leb _ _ (c .if3 .taken))
 
 returns-4 : tie.Need-returns-4
-unfolding refusedBy
+unfolding okHearing
 returns-4 c = simp (good (c .before .before), lengths (c .before), le-leb _ _ (c .if3 .left))
 
 pub refusal-of-spec : {M : Type 1} → statement M
