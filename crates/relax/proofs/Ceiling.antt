@@ -11,17 +11,18 @@ use lib.Dec.{leb}
 use borrow.Author.Tests.{leb-true, le-leb, lt-leb}
 use Rattle.lists.proofs.Tests.{bool-cases}
 use Rattle.relax.specs.Graph.{Graph, Lawful, State, noRow, ceilingOf, Fresh, Takes, Deliver, Reach}
-use Rattle.relax.specs.Journeys.{sum, bit}
+use Rattle.lists.specs.Lists.{one}
+use Rattle.relax.specs.Journeys.{sum}
 use Rattle.relax.proofs.Sum.{sum-le, sum-lt, sum-most, bit-one, bit-le, bit-lt}
 use Rattle.relax.proofs.Laws.{takes-below, takes?, always}
 use Rattle.relax.proofs.Sound.{cost-falls}
 
 -- how many of the vertices below size cost at most c
 within : ℕ → State → ℕ → ℕ
-within size s c = sum size (λ i. bit (leb (s .cost i) c))
+within size s c = sum size (λ i. one (leb (s .cost i) c))
 
 -- more of them count as costs fall, or as c rises
-within-at : (a b c e : ℕ) → b ≤ a → c ≤ e → bit (leb a c) ≤ bit (leb b e)
+within-at : (a b c e : ℕ) → b ≤ a → c ≤ e → one (leb a c) ≤ one (leb b e)
 within-at a b c e fall h = bit-le (leb a c) (leb b e) (λ p. le-leb b e (omega (arith, leb-true a c p)))
 
 within-le : (size : ℕ) (s t : State) (c e : ℕ) → ((i : ℕ) → t .cost i ≤ s .cost i) → c ≤ e → within size s c ≤ within size t e
@@ -43,8 +44,8 @@ within-most size s c = omega (arith, sum-most size 1 _ (λ i. bit-one (leb (s .c
 within-one : (size : ℕ) (s : State) (c v : ℕ) → v < size → s .cost v ≤ c → 0 < within size s c
 unfolding within
 within-one size s c v below h =
-    let one : 0 < bit (leb (s .cost v) c) = bit-lt false (leb (s .cost v) c) refl (le-leb (s .cost v) c h) in
-    omega (arith, sum-lt size (λ i. 0) (λ i. bit (leb (s .cost i) c)) (λ i. zero-le) v below one)
+    let counts : 0 < one (leb (s .cost v) c) = bit-lt false (leb (s .cost v) c) refl (le-leb (s .cost v) c h) in
+    omega (arith, sum-lt size (λ i. 0) (λ i. one (leb (s .cost i) c)) (λ i. zero-le) v below counts)
 
 module _ (g : Graph) (ok : Lawful g) where
   open Graph g using (size, dearest, weight, home)

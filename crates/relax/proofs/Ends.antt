@@ -6,9 +6,10 @@ use mathlib.Core.Bool.{true, false, true≢false}
 use native.Mathlib.Omega.{arith}
 use native.Mathlib.Nat.{mul-le-mul-right}
 use native.Mathlib.Decide.{decLt}
+use Rattle.lists.specs.Lists as lists
 use Rattle.lists.proofs.Tests.{bool-cases}
 use Rattle.relax.specs.Graph.{Graph, Lawful, State, noRow, cleared, Fresh, Takes, Deliver, Reach, fresh}
-use Rattle.relax.specs.Journeys.{sum, bit, messages, measure, bound, Waits, Run, rest, one, idle}
+use Rattle.relax.specs.Journeys.{sum, messages, measure, bound, Waits, Run, rest, one, idle}
 use Rattle.relax.proofs.Sum.{sum-le, sum-lt, sum-most, bit-one, bit-le, bit-lt}
 use Rattle.relax.proofs.Laws.{same-path, takes-below, takes?, heard-here, run-reach, always}
 use Rattle.relax.proofs.Sound.{cost-falls, sound}
@@ -17,7 +18,7 @@ use Rattle.relax.proofs.Ceiling.{below-noRow}
 -- no more messages wait than there are places for one
 messages-most : (size N : ℕ) (s : State) → messages size N s ≤ size * N
 unfolding messages
-messages-most size N s = sum-most size N _ (λ v. omega (arith, sum-most N 1 (λ U. bit (s .waiting v U)) (λ U. bit-one (s .waiting v U))))
+messages-most size N s = sum-most size N _ (λ v. omega (arith, sum-most N 1 (λ U. lists.one (s .waiting v U)) (λ U. bit-one (s .waiting v U))))
 
 -- fewer wait, if none is new and one is gone
 messages-lt : (size N : ℕ) (s t : State) (x U : ℕ) → x < size → U < N → ((v Q : ℕ) → t .waiting v Q ≡ true → s .waiting v Q ≡ true)

@@ -2,7 +2,8 @@
 use Prim.Native.Nat.{ℕ, zero, suc, _+_, _-_, _*_, _≤_, _<_}
 use mathlib.Core.Path.{_≡_}
 use mathlib.Core.Logic.{_≢_, _⊎_}
-use mathlib.Core.Bool.{Bool, true, false}
+use mathlib.Core.Bool.{true, false}
+use Rattle.lists.specs.Lists as lists
 use Rattle.relax.specs.Graph.{Graph, State, noRow, Same, Deliver, Later}
 
 -- no message waits
@@ -14,14 +15,9 @@ unfoldable pub sum : ℕ → (ℕ → ℕ) → ℕ
 sum zero f = 0
 sum (suc n) f = sum n f + f n
 
--- a test as a number, so that a sum of tests counts
-abbrev pub bit : Bool → ℕ
-bit true = 1
-bit false = 0
-
 -- how many messages wait, about the first size vertices and for the first N gateways (the theorems ask that no gateway sends past those)
 unfoldable pub messages : ℕ → ℕ → State → ℕ
-messages size N s = sum size (λ v. sum N (λ U. bit (s .waiting v U)))
+messages size N s = sum size (λ v. sum N (λ U. lists.one (s .waiting v U)))
 
 -- what each delivery lowers: the costs count first, so that one that falls outweighs all the messages that it sets off
 unfoldable pub measure : ℕ → ℕ → State → ℕ
