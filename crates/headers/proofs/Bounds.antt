@@ -10,9 +10,9 @@ use borrow.Author.Tests.{lt-ltb}
 use Rattle.lists.proofs.Tests.{both}
 use Rattle.stacks.specs.Stacks.{below, okStack}
 use Rattle.stacks.proofs.Tests.{good-ok}
-use Rattle.headers.specs.Fields.{protocol}
+use Rattle.header.specs.Fields.{protocol}
 use Rattle.headers.specs.Chains.{Chain, innermost, around, Reads}
-use Rattle.headers.proofs.Lengths.{two-protocols, header-fits, length-fits}
+use Rattle.header.proofs.Lengths.{two-protocols, header-fits, length-fits}
 
 below-snoc : (p q : ℕ) (stack : List ℕ) → below p stack ≡ true → q < p → below p (stack ++ (q ∷ [])) ≡ true
 below-snoc p q [] b small = simp (lt-ltb q p small)

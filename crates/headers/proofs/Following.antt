@@ -9,13 +9,16 @@ use mathlib.Core.Bool.{true}
 use lib.ListN.{length}
 use borrow.Author.Tests.{lt-ltb}
 use Rattle.stacks.specs.Stacks.{below, number}
-use Rattle.headers.specs.Fields.{announces, protocol, next, headerLength, packetLength}
-use Rattle.headers.specs.Chains.{headerRefusal, follow}
+use Rattle.header.specs.Fields.{protocol}
+use Rattle.header.specs.Answers.{headerRefusal, refusalOf, headerOf}
+use Rattle.header.specs.declared.Header.{Header}
+use Rattle.headers.specs.Chains.{follow}
 use Rattle.headers.specs.Steps.{chainedOf}
 use Rattle.headers.specs.declared.chain.Chained.{Chained}
 use Rattle.headers.specs.declared.chain.Chained.the-variants.{Found, Refused}
-use Rattle.headers.proofs.Rightness.{right}
-use Rattle.headers.proofs.Lengths.{two-protocols, room-20, length-fits}
+use Rattle.header.proofs.Rightness.{right}
+use Rattle.header.proofs.Lengths.{two-protocols, length-fits}
+use Rattle.header.proofs.Outcomes.{as-held, refused-is, Passed, right-is}
 use Rattle.headers.proofs.Numbering.{number-under, number-small, weight-small}
 use Rattle.headers.proofs.Follows.{follow-refused, follow-high, follow-ends, follow-on}
 
@@ -55,33 +58,40 @@ module _ (packet : List ℕ) (h announced k s e n weight : ℕ) (f : Following p
   pub light : h ≤ 12 → weight ≤ 4096
   light low = omega (arith, f .weighed, weight-small k (omega (arith, f .counted)))
 
-  pub sum-few : (q : ℕ) → h ≤ 12 → q ≡ protocol packet s → n + weight * (q + 1) ≤ 16382
-  sum-few q low is = omega (arith, few low, light low, mul-le-mul-left weight (let two : q + 1 ≤ 2 = omega (arith, two-protocols packet s) in two))
+  refusal-is : refusalOf packet s announced e ≡ headerRefusal packet s announced e
+  refusal-is = as-held packet s announced e (f .within)
 
-  pub refuses : (r : ℕ) → r ≡ headerRefusal packet s announced e → (r ≡ 0 → ⊥) → Refused r k s ≡ chained packet h
-  refuses r is bad =
+  pub refuses : (r : ℕ) → Header.Refused r ≡ headerOf packet s announced e → Refused r k s ≡ chained packet h
+  refuses r answer =
+      let d = refused-is packet s announced e r answer in
+      let is : r ≡ headerRefusal packet s announced e = d .0 ∙ refusal-is in
       ap (λ (x : ℕ). Refused x k s) is
-      ∙ ap chainedOf (sym (follow-refused packet announced k s e (f .outer) (f .left) (λ z. bad (is ∙ z))) ∙ f .same)
+      ∙ ap chainedOf (sym (follow-refused packet announced k s e (f .outer) (f .left) (λ z. d .1 (is ∙ z))) ∙ f .same)
 
-  module _ (fine : headerRefusal packet s announced e ≡ 0) where
-    pub room : s + 20 ≤ length packet
-    room = omega (arith, f .within, room-20 packet s e (right packet s announced e fine .room))
+  module _ (q from to after : ℕ) (answer : Header.Right q from to after ≡ headerOf packet s announced e) where
+    header : Passed packet s announced e q from to after
+    header = right-is packet s announced e q from to after answer
+
+    pub one-or-two : q + 1 ≤ 2
+    one-or-two = omega (arith, header .is-protocol, two-protocols packet s)
+
+    pub sum-few : h ≤ 12 → n + weight * (q + 1) ≤ 16382
+    sum-few low = omega (arith, few low, light low, mul-le-mul-left weight one-or-two)
 
     pub too-high : k ≡ h → Refused 67 k s ≡ chained packet h
-    too-high top = ap chainedOf (sym (follow-high packet announced k s e (f .outer) fine (f .left) (omega (arith, f .counted))) ∙ f .same)
+    too-high top = ap chainedOf (sym (follow-high packet announced k s e (f .outer) (header .fine) (f .left) (omega (arith, f .counted))) ∙ f .same)
 
-    module _ (low : k ≡ h → ⊥) (q header long after : ℕ) (is-q : q ≡ protocol packet s) (is-header : header ≡ headerLength packet s)
-        (is-long : long ≡ packetLength packet s) (is-after : after ≡ announces (next packet s)) where
+    module _ (low : k ≡ h → ⊥) where
       -- the number with this header's protocol below those around it
       more : n + weight * (q + 1) ≡ number 2 (protocol packet s ∷ f .outer)
-      more = rw (f .numbered, f .weighed, is-q, ← (f .high)) (sym (number-under (protocol packet s) (f .outer)))
+      more = rw (f .numbered, f .weighed, header .is-protocol, ← (f .high)) (sym (number-under (protocol packet s) (f .outer)))
 
-      pub ends : after ≡ 0 → Found (n + weight * (q + 1)) (s + header) (s + long) ≡ chained packet h
+      pub ends : after ≡ 0 → Found (n + weight * (q + 1)) from to ≡ chained packet h
       ends last =
-          rw (more, is-header, is-long)
-          (ap chainedOf (sym (follow-ends packet announced k s e (f .outer) fine (f .left) (omega (arith, f .counted)) (sym is-after ∙ last)) ∙ f .same))
+          rw (more, header .is-inside, header .is-end)
+          (ap chainedOf (sym (follow-ends packet announced k s e (f .outer) (header .fine) (f .left) (omega (arith, f .counted)) (sym (header .is-after) ∙ last)) ∙ f .same))
 
-      pub goes-on : (after ≡ 0 → ⊥) → Following packet h after (k + 1) (s + header) (s + long) (n + weight * (q + 1)) (2 * weight)
+      pub goes-on : (after ≡ 0 → ⊥) → Following packet h after (k + 1) from to (n + weight * (q + 1)) (2 * weight)
       goes-on on = record {
         outer = protocol packet s ∷ f .outer;
         left = f .left - 1;
@@ -90,8 +100,8 @@ module _ (packet : List ℕ) (h announced k s e n weight : ℕ) (f : Following p
         small = simp (lt-ltb (protocol packet s) 2 (two-protocols packet s)) (f .small);
         numbered = more;
         weighed = rw (add-one k) (omega (arith, f .weighed, pow-succ' 2 k));
-        within = omega (arith, f .within, length-fits packet s e (right packet s announced e fine .length));
+        within = omega (arith, f .within, header .is-end, length-fits packet s e (right packet s announced e (header .fine) .length));
         same =
-            rw (is-after, is-header, is-long)
-            (sym (follow-on packet announced k s e (f .outer) fine (f .left) (omega (arith, f .counted)) (λ z. on (is-after ∙ z))) ∙ f .same);
+            rw (header .is-after, header .is-inside, header .is-end)
+            (sym (follow-on packet announced k s e (f .outer) (header .fine) (f .left) (omega (arith, f .counted)) (λ z. on (header .is-after ∙ z))) ∙ f .same);
       }

@@ -5,8 +5,9 @@ use native.Mathlib.Omega.{arith}
 use mathlib.Core.Path.{_≡_}
 use mathlib.Core.List.{List, _∷_}
 use borrow.Author.Tests.{eq-eqb, ne-eqb}
-use Rattle.headers.specs.Fields.{announces, protocol, next, inside, end}
-use Rattle.headers.specs.Chains.{found, refused, headerRefusal, follow}
+use Rattle.header.specs.Fields.{announces, protocol, next, inside, end}
+use Rattle.header.specs.Answers.{headerRefusal}
+use Rattle.headers.specs.Chains.{found, refused, follow}
 
 module _ (packet : List ℕ) (announced k s e : ℕ) (outer : List ℕ) where
   pub follow-refused : (left : ℕ) → (headerRefusal packet s announced e ≡ 0 → ⊥)

@@ -1,11 +1,6 @@
--- The laws of the crate, from the fields up to the promises.
-pub mod Bytes
-pub mod Lengths
-pub mod Judging
-pub mod Rightness
+-- The laws of the crate, from the chains up to the promises.
 pub mod Reading
 pub mod Bounds
-pub mod Agreeing
 pub mod Trailing
 pub mod Numbering
 pub mod Follows

@@ -10,9 +10,10 @@ use lib.Dec.{eqb, eqb·suc-zero}
 use lib.Seq.{append-snoc}
 use borrow.Author.Tests.{eqb-true}
 use Rattle.stacks.specs.Stacks.{okSize}
-use Rattle.headers.specs.Fields.{announces, next, protocol, inside, end, Right}
-use Rattle.headers.specs.Chains.{Chain, innermost, around, Reads, Reading, found, refused, headerRefusal, follow, readingOf}
-use Rattle.headers.proofs.Rightness.{right, unrefused}
+use Rattle.header.specs.Fields.{announces, next, protocol, inside, end, Right}
+use Rattle.header.specs.Answers.{headerRefusal}
+use Rattle.headers.specs.Chains.{Chain, innermost, around, Reads, Reading, found, refused, follow, readingOf}
+use Rattle.header.proofs.Rightness.{right, unrefused}
 
 module _ (packet : List ℕ) where
   -- a chain is found, with what stands around it

@@ -10,11 +10,12 @@ use lib.ListN.{length}
 use lib.Dec.{leb, eqb}
 use borrow.Author.Tests.{eqb-true, le-leb, lt-leb}
 use Rattle.stacks.specs.Stacks.{okSize}
-use Rattle.headers.specs.Fields.{announces, protocol, shortest, headerLength, packetLength, next, okRoom, okVersion, okHeader, okLength, okChecksum, okWhole, inside, end}
-use Rattle.headers.specs.Chains.{Reading, found, refused, headerRefusal, follow, readingOf}
-use Rattle.headers.proofs.Rightness.{right}
-use Rattle.headers.proofs.Lengths.{at-least-20, header-fits, room-20, length-fits}
-use Rattle.headers.proofs.Agreeing.{Agree, protocol-same, shortest-same, headerLength-same, packetLength-same, next-same, okVersion-same, okHeader-same, okWhole-same, okChecksum-same}
+use Rattle.header.specs.Fields.{announces, protocol, shortest, headerLength, packetLength, next, okRoom, okVersion, okHeader, okLength, okChecksum, okWhole, inside, end}
+use Rattle.header.specs.Answers.{headerRefusal}
+use Rattle.headers.specs.Chains.{Reading, found, refused, follow, readingOf}
+use Rattle.header.proofs.Rightness.{right}
+use Rattle.header.proofs.Lengths.{at-least-20, header-fits, room-20, length-fits}
+use Rattle.header.proofs.Agreeing.{Agree, protocol-same, shortest-same, headerLength-same, packetLength-same, next-same, okVersion-same, okHeader-same, okWhole-same, okChecksum-same}
 
 -- the same test, and the same where it holds
 cond-same : {A : Type 0} (c c′ : Bool) (x x′ y y′ : A) → c ≡ c′ → (c ≡ true → x ≡ x′) → y ≡ y′ → cond c x y ≡ cond c′ x′ y′

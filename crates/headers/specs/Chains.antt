@@ -5,9 +5,9 @@ use mathlib.Core.List.{List, [], _∷_, _++_}
 use mathlib.Core.Bool.{true, cond}
 use lib.ListN.{length}
 use lib.Dec.{eqb}
-use Rattle.lists.specs.Lists.{unless}
 use Rattle.stacks.specs.Stacks.{okSize}
-use Rattle.headers.specs.Fields.{announces, protocol, next, okRoom, okVersion, okHeader, okLength, okChecksum, okWhole, Right, inside, end}
+use Rattle.header.specs.Fields.{announces, protocol, next, Right, inside, end}
+use Rattle.header.specs.Answers.{headerRefusal}
 
 -- The chain of headers from the one at `s`, announced so, in what ends at `e`: its stack from the bottom up, "outermost header on top", and
 -- where "the innermost packet's part after its header" begins and ends.
@@ -28,13 +28,6 @@ pub record Reads (h : ℕ) (packet stack : List ℕ) (from to : ℕ) : Type 0 wh
 pub data Reading : Type 0 where
   found : List ℕ → ℕ → ℕ → Reading
   refused : ℕ → ℕ → ℕ → Reading
-
--- "then, header by header from outside: too short .., wrong version, bad header length, length beyond what holds it, bad checksum, a fragment
--- that has an offset or more to come"; 0 where the header is right
-unfoldable pub headerRefusal : List ℕ → ℕ → ℕ → ℕ → ℕ
-headerRefusal packet s announced e =
-    unless (okRoom packet s e) 61 (unless (okVersion packet s announced) 62 (unless (okHeader packet s) 63
-    (unless (okLength packet s e) 64 (unless (okChecksum packet s) 65 (unless (okWhole packet s) 66 0)))))
 
 module _ (packet : List ℕ) where
   -- the reader from the header at `s` on, which is number `k` from outside and has `outer` around it, from the bottom up; so many headers, this

@@ -1,5 +1,4 @@
 -- The definitions of crate headers.
-pub mod Fields
 pub mod Chains
 pub mod Answers
 pub mod Steps

@@ -6,7 +6,7 @@ use mathlib.Core.List.{List, [], _∷_}
 use mathlib.Core.Bool.{true}
 use lib.ListN.{length, getD}
 use Rattle.stacks.specs.Stacks.{okStack}
-use Rattle.headers.specs.Fields.{packetLength, shortest}
+use Rattle.header.specs.Fields.{packetLength, shortest}
 use Rattle.headers.specs.Examples.{fourInSix, wrongChecksum}
 use Rattle.headers.specs.Chains.{Chain, Reads, found, refused, readingOf}
 

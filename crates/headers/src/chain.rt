@@ -5,11 +5,7 @@ ghost use Prim.Native.Nat.{_≤_};
 ghost use lib.ListN.{length};
 ghost use Rattle.headers.specs.Chains.{follow};
 ghost use Rattle.headers.specs.Steps.{chainedOf};
-use crate::fields::announced_by;
-use crate::fields::by_version;
-use crate::fields::header_length;
-use crate::fields::packet_length;
-use crate::judged::judged;
+use header::Header;
 
 // The stack's number and where the innermost part begins and ends; or the refusal, the header that met it and where that starts.
 pub(crate) enum Chained {
@@ -29,23 +25,22 @@ pub(crate) fn followed(h: usize, packet: &[u8]) -> Chained
     let mut number: usize = 0;
     let mut weight: usize = 1;
     loop {
-        let refusal = judged(packet, s, announced, e);
-        if refusal != 0 {
-            return Chained::Refused(refusal, k, s);
+        match header::header_at(packet, s, announced, e) {
+            Header::Refused(refusal) => return Chained::Refused(refusal, k, s),
+            Header::Right(protocol, from, to, after) => {
+                if k == h {
+                    return Chained::Refused(67, k, s);
+                }
+                number += weight * (protocol + 1);
+                if after == 0 {
+                    return Chained::Found(number, from, to);
+                }
+                weight = 2 * weight;
+                announced = after;
+                k += 1;
+                s = from;
+                e = to;
+            }
         }
-        if k == h {
-            return Chained::Refused(67, k, s);
-        }
-        number += weight * (by_version(packet, s, 0, 1) + 1);
-        let from = s + header_length(packet, s);
-        let to = s + packet_length(packet, s);
-        announced = announced_by(packet, s);
-        if announced == 0 {
-            return Chained::Found(number, from, to);
-        }
-        weight = 2 * weight;
-        k += 1;
-        s = from;
-        e = to;
     }
 }

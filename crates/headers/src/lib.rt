@@ -3,8 +3,6 @@ ghost use mathlib.Core.Path.{_≡_};
 ghost use Rattle.headers.specs.Answers.{outOf, readOf};
 
 mod chain;
-mod fields;
-mod judged;
 
 use chain::Chained;
 use chain::followed;

@@ -9,8 +9,9 @@ use lib.Dec.{leb, eqb}
 use borrow.Author.Tests.{le-leb, ne-eqb, eqb-false}
 use Rattle.lists.specs.Lists.{unless}
 use Rattle.stacks.specs.Stacks.{number, okSize}
-use Rattle.headers.specs.Fields.{announces, protocol, next, okRoom, okVersion, okHeader, okLength, okChecksum, okWhole, inside, end}
-use Rattle.headers.specs.Chains.{Reading, found, refused, headerRefusal, follow, readingOf}
+use Rattle.header.specs.Fields.{announces, protocol, next, okRoom, okVersion, okHeader, okLength, okChecksum, okWhole, inside, end}
+use Rattle.header.specs.Answers.{headerRefusal}
+use Rattle.headers.specs.Chains.{Reading, found, refused, follow, readingOf}
 use Rattle.headers.specs.Answers.{answered, readOf}
 use Rattle.headers.specs.declared.Read.{Read}
 use Rattle.packing.specs.Packing.{packEnd, isRefused}

@@ -12,6 +12,8 @@ use Rattle.functions.specs.declared.After.{After}
 use Rattle.bits.specs.Bits as bits
 use Rattle.words.specs.Words as words
 use Rattle.words.specs.declared.Found.{Found}
+use Rattle.header.specs.Answers.{headerOf}
+use Rattle.header.specs.declared.Header.{Header}
 use Rattle.headers.specs.Answers as headers
 use Rattle.headers.specs.declared.Read.{Read}
 use Rattle.network.specs.Network.{Network, linkAt, neighboursAt}
@@ -64,6 +66,9 @@ pub inverse-of : (p f : ℕ) → One (λ (r : Answer). r ≡ inverseOf p f)
 inverse-of p f = one (inverseOf p f)
 
 -- ---- headers
+pub header-at : (packet : List ℕ) (s announced e : ℕ) → One (λ (r : Header). r ≡ headerOf packet s announced e)
+header-at packet s announced e = one (headerOf packet s announced e)
+
 pub read-stack : (h : ℕ) (packet out : List ℕ) → OneBoth (λ (r : Read) (after : List ℕ). (r ≡ headers.readOf h packet out) × (after ≡ headers.outOf h packet out))
 read-stack h packet out = both (headers.readOf h packet out) (headers.outOf h packet out)
 

@@ -1,0 +1,3 @@
+-- The definitions of crate header.
+pub mod Fields
+pub mod Answers
