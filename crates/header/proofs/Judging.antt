@@ -10,24 +10,25 @@ use mathlib.Core.Bool.{Bool, true, false, cond, _&&_, _||_, true≢false}
 use lib.ListN.{length}
 use lib.Dec.{leb, ltb, eqb}
 use borrow.Author.Tests.{eq-eqb, ne-eqb, le-leb, lt-leb, leb-true, leb-false, ltb-true, ltb-false}
-use Rattle.lists.specs.Lists.{unless}
 use Rattle.header.specs.Fields.{byte, headerLength, okChecksum, okHeader, okLength, okRoom, okVersion, okWhole, packetLength, pair, plus, shortest, sum, version}
-use Rattle.header.specs.Answers.{headerRefusal, refusalOf}
+use Rattle.header.specs.Answers.{headerRefusal, restRefusal, refusalOf}
 use Rattle.lists.proofs.Tests.{either}
 use Rattle.header.proofs.Lengths.{at-least-20}
 
-neither : (a b : Bool) → (a || b) ≡ false → (a ≡ false) × (b ≡ false)
+pub neither : (a b : Bool) → (a || b) ≡ false → (a ≡ false) × (b ≡ false)
 neither true b e = absurd (true≢false e)
 neither false b e = (refl, e)
 
 -- ---- the one's complement sum
-pub no-carry : (x y : ℕ) → x + y ≤ 65535 → x + y ≡ plus x y
+pub carried : (x y : ℕ) → x < 65536 → y < 65536 → ((x + y) % 65536 + (x + y) / 65536 ≡ plus x y) × ((x + y) % 65536 + (x + y) / 65536 < 65536)
 unfolding plus
-no-carry x y low = simp (le-leb (x + y) 65535 low)
+carried x y few small = (by-cases (decLt 65535 (x + y)) over under, omega arith)
+  where
+    over : 65535 < x + y → (x + y) % 65536 + (x + y) / 65536 ≡ plus x y
+    over high = simp (lt-leb (x + y) 65535 high) (omega arith)
 
-pub carry : (x y : ℕ) → 65535 < x + y → x + y - 65535 ≡ plus x y
-unfolding plus
-carry x y high = simp (lt-leb (x + y) 65535 high)
+    under : (65535 < x + y → ⊥) → (x + y) % 65536 + (x + y) / 65536 ≡ plus x y
+    under low = simp (le-leb (x + y) 65535 (omega arith)) (omega arith)
 
 module _ (packet : List ℕ) (s : ℕ) where
   -- one word more
@@ -36,22 +37,15 @@ module _ (packet : List ℕ) (s : ℕ) where
 
 -- ---- the version
 module _ (packet : List ℕ) (s announced : ℕ) {v : ℕ} (is : v ≡ version packet s) where
+  pub outermost : announced ≡ 0 → (eqb v 4 || eqb v 6) ≡ okVersion packet s announced
+  unfolding okVersion
+  outermost none = simp (eq-eqb announced 0 none, is)
+
   pub announced-one : (announced ≡ 0 → ⊥) → eqb v announced ≡ okVersion packet s announced
   unfolding okVersion
   announced-one some = simp (ne-eqb announced 0 some, is)
 
-  pub outermost-four : announced ≡ 0 → v ≡ 4 → true ≡ okVersion packet s announced
-  unfolding okVersion
-  outermost-four none four = simp (eq-eqb announced 0 none, eq-eqb (version packet s) 4 (sym is ∙ four))
-
-  pub outermost-other : announced ≡ 0 → (v ≡ 4 → ⊥) → eqb v 6 ≡ okVersion packet s announced
-  unfolding okVersion
-  outermost-other none other = simp (eq-eqb announced 0 none, ne-eqb (version packet s) 4 (λ e. other (is ∙ e)), is)
-
 -- ---- the tests from the header length on, at each return of `rest_judged`
-abbrev pub restRefusal : List ℕ → ℕ → ℕ → ℕ
-restRefusal packet s e = unless (okHeader packet s) 63 (unless (okLength packet s e) 64 (unless (okChecksum packet s) 65 (unless (okWhole packet s) 66 0)))
-
 -- version 6 passes the tests of the header length, which it need not
 header-as : (packet : List ℕ) (s : ℕ) → okHeader packet s ≡ (leb 20 (headerLength packet s) && leb (headerLength packet s) (packetLength packet s))
 unfolding okHeader headerLength packetLength
@@ -114,7 +108,7 @@ module _ (packet : List ℕ) (s e : ℕ) (q : Fits packet s e) {v : ℕ} (is : v
       pub right : word % 16384 ≡ 0 → 0 ≡ restRefusal packet s e
       right whole = simp (q .header, q .length, checksum-is, eq-eqb total 65535 summed, whole-is, eq-eqb (word % 16384) 0 whole)
 
--- ---- all the tests, at each return of `judged`
+-- ---- all the tests, at each return of `header_at`
 module _ (packet : List ℕ) (s announced e : ℕ) where
   pub no-room : (ltb (length packet) e || leb e s) ≡ true → 61 ≡ refusalOf packet s announced e
   unfolding refusalOf headerRefusal okRoom
@@ -143,6 +137,6 @@ module _ (packet : List ℕ) (s announced e : ℕ) where
       unfolding refusalOf headerRefusal
       wrong-version versioned = simp (le-leb e (length packet) (within .0), room, versioned)
 
-      pub as-rest : {r : ℕ} → okVersion packet s announced ≡ true → r ≡ restRefusal packet s e → r ≡ refusalOf packet s announced e
+      pub as-rest : okVersion packet s announced ≡ true → restRefusal packet s e ≡ refusalOf packet s announced e
       unfolding refusalOf headerRefusal
-      as-rest versioned is = simp (le-leb e (length packet) (within .0), room, versioned) is
+      as-rest versioned = simp (le-leb e (length packet) (within .0), room, versioned)

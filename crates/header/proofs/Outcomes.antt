@@ -6,12 +6,16 @@ use mathlib.Core.List.{List}
 use mathlib.Core.Bool.{Bool, true, false, cond}
 use lib.ListN.{length}
 use lib.Dec.{leb, eqb}
-use borrow.Author.Tests.{eq-eqb, ne-eqb, eqb-true, eqb-false, le-leb, leb-true}
+use borrow.Author.Tests.{eqb-true, eqb-false, le-leb, leb-true}
 use Rattle.header.specs.Fields.{announces, protocol, next, headerLength, packetLength, inside, end}
-use Rattle.header.specs.Answers.{headerRefusal, refusalOf, headerOf}
+use Rattle.header.specs.Answers.{headerRefusal, refusalOf, answered, headerOf}
 use Rattle.header.specs.declared.Header.{Header}
-use Rattle.header.proofs.Lengths.{room-20}
-use Rattle.header.proofs.Rightness.{passed, right}
+use Rattle.header.proofs.Rightness.{passed}
+
+-- a header without a refusal
+pub passes : (packet : List ℕ) (s : ℕ) {r q header long after : ℕ} → 0 ≡ r → q ≡ protocol packet s → header ≡ headerLength packet s → long ≡ packetLength packet s
+    → after ≡ announces (next packet s) → Header.Right q (s + header) (s + long) after ≡ answered packet s r
+passes packet s fine is-q is-header is-long is-after = rw (← fine, is-q, is-header, is-long, is-after) refl
 
 module _ (packet : List ℕ) (s announced e : ℕ) where
   pub as-held : e ≤ length packet → refusalOf packet s announced e ≡ headerRefusal packet s announced e
@@ -21,21 +25,6 @@ module _ (packet : List ℕ) (s announced e : ℕ) where
   held : refusalOf packet s announced e ≡ 0 → (e ≤ length packet) × (headerRefusal packet s announced e ≡ 0)
   unfolding refusalOf
   held fine = let p = passed (leb e (length packet)) 60 _ fine in (leb-true e (length packet) (p .0), p .1)
-
-  -- ---- the two returns
-  module _ (r : ℕ) (is : r ≡ refusalOf packet s announced e) where
-    pub refuses : (r ≡ 0 → ⊥) → Header.Refused r ≡ headerOf packet s announced e
-    refuses bad = rw (← is) (simp (ne-eqb r 0 bad))
-
-    module _ (fine : r ≡ 0) where
-      pub room : s + 20 ≤ length packet
-      room =
-          let h = held (sym is ∙ fine) in
-          omega (arith, h .0, room-20 packet s e (right packet s announced e (h .1) .room))
-
-      pub passes : (q header long after : ℕ) → q ≡ protocol packet s → header ≡ headerLength packet s → long ≡ packetLength packet s
-          → after ≡ announces (next packet s) → Header.Right q (s + header) (s + long) after ≡ headerOf packet s announced e
-      passes q header long after is-q is-header is-long is-after = rw (← is, is-q, is-header, is-long, is-after) (simp (eq-eqb r 0 fine))
 
   -- ---- what the answers say
   pub refused-is : (r : ℕ) → Header.Refused r ≡ headerOf packet s announced e → (r ≡ refusalOf packet s announced e) × (r ≡ 0 → ⊥)

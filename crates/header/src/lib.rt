@@ -5,11 +5,9 @@ ghost use Rattle.header.specs.Answers.{headerOf};
 mod fields;
 mod judged;
 
-use fields::announced_by;
 use fields::by_version;
-use fields::header_length;
-use fields::packet_length;
-use judged::judged;
+use judged::rest_judged;
+use judged::version_fits;
 
 // The header's protocol, where what follows it begins, where its packet ends, and the version of the header that follows (0 for none); or the refusal.
 pub enum Header {
@@ -17,16 +15,18 @@ pub enum Header {
     Refused(u32),
 }
 
-// The header that starts at s, announced so, in what ends at e. Protocol 0 is IPv4, 1 is IPv6.
+// The header that starts at s, announced so (0 for the outermost), in what ends at e. Protocol 0 is IPv4, 1 is IPv6.
 pub fn header_at(packet: &[u8], s: usize, announced: usize, e: usize) -> Header
     ensures { λ r. ⌜ r ≡ headerOf (now (packet .entry)) s announced e ⌝ }
 {
-    let refusal = judged(packet, s, announced, e);
-    if refusal != 0 {
-        return Header::Refused(refusal);
+    if (packet.len() < e) | (e <= s) {
+        return Header::Refused(61);
     }
-    let protocol = by_version(packet, s, 0, 1);
-    let from = s + header_length(packet, s);
-    let to = s + packet_length(packet, s);
-    Header::Right(protocol, from, to, announced_by(packet, s))
+    if e - s < by_version(packet, s, 20, 40) {
+        return Header::Refused(61);
+    }
+    if version_fits(packet, s, announced) {
+        return rest_judged(packet, s, e);
+    }
+    Header::Refused(62)
 }

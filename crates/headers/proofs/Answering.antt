@@ -2,11 +2,13 @@
 use Prim.Native.Nat.{ℕ, _≤_, _<_}
 use native.Mathlib.Omega.{arith}
 use mathlib.Core.Path.{_≡_, refl, sym, ap, _∙_}
+use mathlib.Core.Logic.{⊎-elim}
 use mathlib.Core.List.{List, [], _++_}
-use mathlib.Core.Bool.{Bool, true, cond}
+use mathlib.Core.Bool.{Bool, true, false, cond, _||_}
 use lib.ListN.{length, drop}
-use lib.Dec.{leb}
-use borrow.Author.Tests.{le-leb, lt-leb}
+use lib.Dec.{leb, ltb}
+use borrow.Author.Tests.{le-leb, lt-leb, ltb-true, ltb-false}
+use Rattle.lists.proofs.Tests.{either}
 use Rattle.stacks.specs.Stacks.{number, height, okSize}
 use Rattle.stacks.specs.Answers.{okOut, heightOf}
 use Rattle.stacks.specs.Answers as stacks
@@ -14,6 +16,7 @@ use Rattle.stacks.specs.declared.Answer.{Answer}
 use Rattle.stacks.proofs.Tests.{Good, good, good-ok, okSize-yes}
 use Rattle.stacks.proofs.Outcomes.{cond-value, cond-refused}
 use Rattle.stacks.proofs.Numbers.{number-ok, stackOf-number, height-number}
+use Rattle.header.proofs.Judging.{neither}
 use Rattle.headers.specs.Chains.{Reading, found, refused, readingOf, follow}
 use Rattle.headers.specs.Answers.{readOf, outOf}
 use Rattle.headers.specs.Steps.{chainedOf}
@@ -53,22 +56,28 @@ module _ (h : ℕ) (stack out : List ℕ) (some : 1 ≤ h) (low : h ≤ 12) (g :
 abbrev pub Answers : ℕ → List ℕ → List ℕ → Read → List ℕ → Type 0
 Answers h packet out r left = (r ≡ readOf h packet out) × (left ≡ outOf h packet out)
 
+pub in-bound : (h : ℕ) → (ltb h 1 || ltb 12 h) ≡ false → (1 ≤ h) × (h ≤ 12)
+in-bound h good = let n = neither (ltb h 1) (ltb 12 h) good in (ltb-false h 1 (n .0), ltb-false 12 h (n .1))
+
 module _ (h : ℕ) (packet out : List ℕ) where
-  pub below-bound : h < 1 → Answers h packet out (Read.Refused 1 0 0) out
+  below-bound : h < 1 → Answers h packet out (Read.Refused 1 0 0) out
   unfolding readingOf okSize
   below-bound none = simp (lt-leb 1 h none) (refl, refl)
 
-  pub above-bound : 12 < h → Answers h packet out (Read.Refused 1 0 0) out
+  above-bound : 12 < h → Answers h packet out (Read.Refused 1 0 0) out
   unfolding readingOf okSize
   above-bound high = simp (le-leb 1 h (omega arith), lt-leb h 12 high) (refl, refl)
 
+  pub out-of-bound : (ltb h 1 || ltb 12 h) ≡ true → Answers h packet out (Read.Refused 1 0 0) out
+  out-of-bound bad = ⊎-elim (λ b. below-bound (ltb-true h 1 b)) (λ b. above-bound (ltb-true 12 h b)) (either (ltb h 1) (ltb 12 h) bad)
+
   module _ (some : 1 ≤ h) (low : h ≤ 12) where
-    in-bound : okSize 2 h ≡ true
-    in-bound = okSize-yes 2 h (omega arith) (omega arith) some low
+    a-bound : okSize 2 h ≡ true
+    a-bound = okSize-yes 2 h (omega arith) (omega arith) some low
 
     is-follow : readingOf h packet ≡ follow packet h 0 0 0 (length packet) []
     unfolding readingOf
-    is-follow = simp in-bound
+    is-follow = simp a-bound
 
     pub chain-refused : (refusal header start : ℕ) → Chained.Refused refusal header start ≡ chainedOf (follow packet h 0 0 0 (length packet) [])
         → Answers h packet out (Read.Refused refusal header start) out

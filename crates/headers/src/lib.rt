@@ -19,10 +19,7 @@ pub enum Read {
 pub fn read_stack(h: usize, packet: &[u8], out: &mut [u8]) -> Read
     ensures { λ r. ⌜ (r ≡ readOf h (now (packet .entry)) (now (out .entry))) × (now (out .exit) ≡ outOf h (now (packet .entry)) (now (out .entry))) ⌝ }
 {
-    if h < 1 {
-        return Read::Refused(1, 0, 0);
-    }
-    if 12 < h {
+    if (h < 1) | (12 < h) {
         return Read::Refused(1, 0, 0);
     }
     match followed(h, packet) {

@@ -6,7 +6,7 @@ use native.Mathlib.Omega.{arith}
 use borrow.Author.Needs.{needs}
 use denote.Ref.{now}
 use Rattle.header.specs.Fields.{sum}
-use Rattle.header.proofs.Judging.{sum-next}
+use Rattle.header.proofs.Judging.{carried, sum-next}
 use Rattle.header.proofs.judged.summed.Statement.{statement}
 use Rattle.header.proofs.judged.summed.Tie as tie
 
@@ -25,8 +25,11 @@ mul-pair-at c = search needs
 pair-at-requires : tie.Need-pair-at-requires Inv-loop μ-loop
 pair-at-requires c κs = search needs
 
-plus-ones-requires : tie.Need-plus-ones-requires Inv-loop μ-loop
-plus-ones-requires c κs = search needs
+add-both : tie.Need-add-both Inv-loop μ-loop
+add-both c = search needs
+
+add-total : tie.Need-add-total Inv-loop μ-loop
+add-total c = search needs
 
 add-i : tie.Need-add-i Inv-loop μ-loop
 add-i c = search needs
@@ -36,9 +39,10 @@ loop-less c = search needs
 
 loop-again : tie.Need-loop-again Inv-loop μ-loop
 loop-again c =
-    let l = c .before .before .before .loop in
-    let a = c .before .before .before .before .before .args in
-    (omega arith, sum-next (now (a .packet)) (a .s) (l .i) (l .inv .1) (c .before .pair-at .ensures .0) (c .plus-ones .ensures .0), c .plus-ones .ensures .1)
+    let l = c .before .before .loop in
+    let a = c .before .before .before .before .args in
+    let adds = carried (l .total) (c .pair-at .result) (l .inv .2) (c .pair-at .ensures .1) in
+    (omega arith, sum-next (now (a .packet)) (a .s) (l .i) (l .inv .1) (c .pair-at .ensures .0) (adds .0), adds .1)
 
 returns : tie.Need-returns Inv-loop μ-loop
 returns c =
@@ -55,7 +59,8 @@ summed-spec =
     loop-holds
     mul-pair-at
     pair-at-requires
-    plus-ones-requires
+    add-both
+    add-total
     add-i
     loop-less
     loop-again
