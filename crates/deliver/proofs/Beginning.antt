@@ -13,7 +13,7 @@ use Rattle.table.specs.Answers.{refusal, stepRefusal, deliverRefusal, deliverAn
 use Rattle.table.specs.declared.Delivered.{Delivered}
 use Rattle.table.proofs.Begins.{Ready, sized-so, begun, stopped}
 use Rattle.step.specs.Step.{Steps}
-use Rattle.step.specs.Network.{Equipped, stepTable}
+use Rattle.step.specs.InNetwork.{Equipped, stepTable}
 use Rattle.step.proofs.Network.{step-delivers}
 
 module _ (net : Network) (t : Table) (Q U D N : ℕ) where

@@ -9,7 +9,7 @@ use Rattle.words.specs.Words.{firstIn}
 use Rattle.words.specs.declared.Found.{Found}
 use Rattle.network.specs.Network.{Network, stacks}
 use Rattle.table.specs.Table.{Table, nodeAt, destinationAt, numberAt, offersTaken, delivered}
-use Rattle.table.specs.Answers.{refusal, okMessage, waits, okSender, stepRefusal, deliverRefusal, deliverAnswer}
+use Rattle.table.specs.Answers.{stepRefusalIn, refusal, okMessage, waits, okSender, stepRefusal, deliverRefusal, deliverAnswer}
 use Rattle.table.specs.Run.{Outcome, after, ends, turn, steps, runOf}
 use Rattle.table.specs.declared.Delivered.{Delivered}
 use Rattle.table.proofs.Begins.{rows-few}
@@ -20,7 +20,7 @@ use Rattle.table.proofs.Deliveries.{offers-most}
 -- ---- a delivery: refusals 4, 5 and 7 besides
 module _ (net : Network) (t : Table) (Q U D N : ℕ) where
   step-few : stepRefusal net t Q U D N ≤ 7
-  unfolding stepRefusal
+  unfolding stepRefusalIn
   step-few = go (okMessage net t Q U D N) (waits net t Q U D N) (okSender net t Q U D N)
     where
       go : (a b c : Bool) → cond a (cond b (cond c 0 7) 5) 4 ≤ 7

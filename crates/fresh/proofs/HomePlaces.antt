@@ -1,5 +1,5 @@
 -- The homes of the table: the rows that `fresh` sets, and the lists while it sets them. Each law is over plain numbers and lists.
-use Prim.Native.Nat.{ℕ, suc, _+_, _*_, _/_, _%_, _≤_, _<_}
+use Prim.Native.Nat.{ℕ, suc, _+_, _-_, _*_, _/_, _%_, _≤_, _<_}
 use native.Mathlib.Nat.{mul-le-mul, mul-le-mul-right, mul-assoc, suc-mul, le-of-lt, div-add-mod'}
 use native.Mathlib.Decide.{decLt}
 use native.Mathlib.Omega.{arith}
@@ -9,8 +9,8 @@ use mathlib.Core.List.{List}
 use mathlib.Core.Bool.{Bool, true, false, cond, _&&_}
 use lib.Arith.{digits-lt, digits-div, digits-mod}
 use lib.ListN.{length, set}
-use lib.Dec.{ltb, eqb}
-use borrow.Author.Tests.{lt-ltb, le-ltb, eq-eqb, eqb-true, ltb-true}
+use lib.Dec.{leb, ltb, eqb}
+use borrow.Author.Tests.{lt-ltb, le-ltb, le-leb, eq-eqb, eqb-true, leb-true}
 use Rattle.lists.specs.Lists.{tabulate}
 use Rattle.lists.proofs.Tables.{length-tabulate, tabulate-same, set-tabulate}
 use Rattle.lists.proofs.Tests.{both, bool-cases}
@@ -115,7 +115,9 @@ module _ (n p S : ℕ) (shape : Shape n p S) (functions : List ℕ) where
   unfolding isHome
   place-home d x low small =
       let stack : x < S = omega (arith, shape .single) in
-      simp (digits-div (d * n + d) stack, digits-mod (d * n + d) stack, digits-div d low, digits-mod d low, eq-eqb d d refl, lt-ltb x p small)
+      let within : x + 1 ≤ p = omega arith in
+      let same : x + 1 - 1 ≡ x = omega arith in
+      simp (digits-div (d * n + d) stack, digits-mod (d * n + d) stack, digits-div d low, digits-mod d low, eq-eqb d d refl, le-leb (x + 1) p within, same)
 
   -- the place of a home by its node and protocol
   home-place : (i : ℕ) → isHome n p S functions i ≡ true → ((i / S / n * n + i / S / n) * S + i % S ≡ i) × (i % S < p)
@@ -124,7 +126,7 @@ module _ (n p S : ℕ) (shape : Shape n p S) (functions : List ℕ) where
       let t = both (eqb (i / S / n) (i / S % n)) _ e in
       let own = eqb-true (i / S / n) (i / S % n) (t .0) in
       let row : i / S / n * n + i / S / n ≡ i / S = ap (λ (k : ℕ). i / S / n * n + k) own ∙ div-add-mod' (i / S) n in
-      (ap (λ (k : ℕ). k * S + i % S) row ∙ div-add-mod' i S, ltb-true (i % S) p (both (ltb (i % S) p) _ (t .1) .0))
+      (ap (λ (k : ℕ). k * S + i % S) row ∙ div-add-mod' i S, omega (arith, leb-true (i % S + 1) p (both (leb (i % S + 1) p) _ (t .1) .0)))
 
   -- between the protocols of node d and the next node's rows there is no home
   no-home : (d i : ℕ) → (d * n + d) * S + p ≤ i → i < ((d + 1) * n + (d + 1)) * S → isHome n p S functions i ≡ false

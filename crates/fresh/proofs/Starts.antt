@@ -1,12 +1,11 @@
 -- What `fresh` knows and leaves: the filled lists, and at the end the fresh table and its count.
 use Prim.Native.Nat.{ℕ, _+_, _-_, _*_, _/_, _%_, _≤_}
-use native.Mathlib.Numerals.{add-one}
 use native.Mathlib.Omega.{arith}
-use mathlib.Core.Path.{_≡_, sym, ap, ap₂, _∙_}
+use mathlib.Core.Path.{_≡_, refl, sym, ap, _∙_}
 use mathlib.Core.List.{List}
-use mathlib.Core.Bool.{Bool, cond, _&&_}
+use mathlib.Core.Bool.{Bool, cond}
 use lib.ListN.{length}
-use lib.Dec.{leb, eqb}
+use lib.Dec.{eqb}
 use Rattle.lists.specs.Lists.{tabulate}
 use Rattle.lists.proofs.Tables.{tabulate-same}
 use Rattle.stacks.proofs.Count.{count-some}
@@ -15,7 +14,6 @@ use Rattle.words.specs.Words.{onesIn, countOf}
 use Rattle.words.proofs.Search.{count-few}
 use Rattle.network.specs.Network.{Network, stacks, neighbours}
 use Rattle.network.proofs.Laws.{valid}
-use Rattle.gateways.specs.Gateways.{receivesAt, accepts}
 use Rattle.table.specs.Table.{Table, tableOf, noRow, noWay, rowsAll, homeAt, home, fresh}
 use Rattle.table.specs.Answers.{refusal, freshAnswer, freshTable}
 use Rattle.fresh.specs.Filling.{Shape, setBelow, isHome, costsBelow, waitsBelow}
@@ -25,12 +23,8 @@ use Rattle.fresh.proofs.HomePlaces.{below-length, below-none, below-all
 
 -- the homes of the filling are those of the specification
 home-same : (net : Network) (i : ℕ) → isHome (net .n) (net .p) (stacks net) (net .functions) i ≡ homeAt net i
-unfolding isHome home accepts
-home-same net i =
-    let S = stacks net in
-    let e : i % S ≡ i % S + 1 - 1 = omega arith in
-    ap₂ (λ (m y : ℕ). eqb (i / S / net .n) (i / S % net .n) && (leb m (net .p) && receivesAt (net .n) (net .p) (net .functions) (i / S % net .n) y))
-    (sym (add-one (i % S))) e
+unfolding isHome home
+home-same net i = refl
 
 module _ (net : Network) (t : Table) (s : ℕ) (ready : Ready net t s) where
   pub shape-of : Shape (net .n) (net .p) s

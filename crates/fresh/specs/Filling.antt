@@ -1,12 +1,11 @@
 -- What stands in the table while `fresh` fills it; no public contract cites it.
-use Prim.Native.Nat.{ℕ, _*_, _/_, _%_, _≤_}
+use Prim.Native.Nat.{ℕ, _+_, _*_, _/_, _%_, _≤_}
 use mathlib.Core.List.{List}
 use mathlib.Core.Bool.{Bool, cond, _&&_}
-use lib.Dec.{ltb, eqb}
+use lib.Dec.{ltb}
 use Rattle.lists.specs.Lists.{tabulate}
 use Rattle.network.specs.Network.{neighboursAt}
-use Rattle.gateways.specs.Gateways.{receivesAt}
-use Rattle.table.specs.Table.{noRow}
+use Rattle.table.specs.Table.{noRow, homeIn}
 
 -- n nodes, p protocols and S stacks, as a network that is not refused has them
 pub record Shape (n p S : ℕ) : Type 0 where
@@ -19,9 +18,9 @@ unfoldable pub setBelow : ℕ → (ℕ → Bool) → (ℕ → ℕ) → ℕ → �
 setBelow r test value other k = tabulate r (λ i. cond (ltb i k && test i) (value i) other)
 
 module _ (n p S : ℕ) (functions : List ℕ) where
-  -- the row at place i is its destination's own, and its stack is one protocol, which the destination accepts
+  -- the row at place i is a home
   unfoldable pub isHome : ℕ → Bool
-  isHome i = eqb (i / S / n) (i / S % n) && (ltb (i % S) p && receivesAt n p functions (i / S % n) (i % S))
+  isHome i = homeIn n p functions (i / S / n) (i / S % n) (i % S + 1)
 
   -- the costs and the waiting words once the homes below place k are set
   abbrev pub costsBelow : ℕ → List ℕ

@@ -3,20 +3,21 @@ use Prim.Native.Nat.{_≤_}
 use native.Mathlib.Omega.{arith}
 use mathlib.Core.Path.{_≡_, refl}
 use mathlib.Core.Bool.{Bool, true, false, cond}
+use lib.ListN.{length}
 use lib.Dec.{eqb}
 use borrow.Author.Tests.{eqb-true, eqb-false}
 use Rattle.network.specs.Network.{Network, stacks, refusalOf}
 use Rattle.network.specs.declared.Checked.{Checked}
 use Rattle.network.proofs.Laws.{refusal-most}
 use Rattle.table.specs.Table.{Table}
-use Rattle.table.specs.Answers.{okTable, refusal}
+use Rattle.table.specs.Answers.{okLengths, refusalBy, refusal}
 use Rattle.table.proofs.Begins.{Ready, is-ready}
 use Rattle.packing.specs.Ranges.{RefusalFits}
 
 module _ (net : Network) (t : Table) where
   pub refusal-few : refusal net t ≤ 3
-  unfolding refusal
-  refusal-few = go (eqb (refusalOf net) 0) (okTable net t)
+  unfolding refusal refusalBy
+  refusal-few = go (eqb (refusalOf net) 0) (okLengths net (length (t .cost)) (length (t .way)) (length (t .waiting)))
     where
       go : (a b : Bool) → cond a (cond b 0 3) (refusalOf net) ≤ 3
       go true true = omega arith
@@ -27,11 +28,11 @@ module _ (net : Network) (t : Table) where
   refusal-fits n = record { some = omega (arith, n); most = omega (arith, refusal-few) }
 
   pub ready-then : refusal net t ≡ 0 → Ready net t (stacks net)
-  unfolding refusal
-  ready-then e = is-ready net t (stacks net) (go (eqb (refusalOf net) 0) refl (okTable net t) e)
+  unfolding refusal refusalBy
+  ready-then e = is-ready net t (stacks net) (go (eqb (refusalOf net) 0) refl (okLengths net (length (t .cost)) (length (t .way)) (length (t .waiting))) e)
     where
       go : (a : Bool) → eqb (refusalOf net) 0 ≡ a → (b : Bool) → cond a (cond b 0 3) (refusalOf net) ≡ 0
-          → cond a (cond b (Checked.Stacks (stacks net)) (Checked.Refused 3)) (Checked.Refused (refusalOf net)) ≡ Checked.Stacks (stacks net)
+          → cond (eqb (cond a (cond b 0 3) (refusalOf net)) 0) (Checked.Stacks (stacks net)) (Checked.Refused (cond a (cond b 0 3) (refusalOf net))) ≡ Checked.Stacks (stacks net)
       go true u true d = refl
       go true u false d = absurd (omega arith)
       go false u b d = absurd (eqb-false (refusalOf net) 0 u d)

@@ -32,7 +32,7 @@ module _ (net : Network) (ok : Network16 net) where
 
   -- which is home at the destination that accepts it
   pub one-home : (D x : ℕ) → accepts net D x ≡ true → home net D D (number (net .p) (x ∷ [])) ≡ true
-  unfolding home
+  unfolding home accepts
   one-home D x e =
       let low = accepts-below net D x e .1 in
       let number-is = number-one (net .p) x in
@@ -46,7 +46,7 @@ module _ (net : Network) (ok : Network16 net) where
     pub accepted : accepts net D (N - 1) ≡ true
 
   pub at-home : (U D N : ℕ) → 1 ≤ N → home net U D N ≡ true → Home U D N
-  unfolding home
+  unfolding home accepts
   at-home U D N some e =
       let a = both (eqb U D) (leb N (net .p) && accepts net D (N - 1)) e in
       let b = both (leb N (net .p)) (accepts net D (N - 1)) (a .1) in

@@ -11,7 +11,7 @@ use Rattle.relax.specs.Graph.{Step, deliver, stutter, Reach, fresh, more}
 use Rattle.relax.specs.Graph as relax
 use Rattle.network.specs.Network.{Network, refusalOf}
 use Rattle.table.specs.Table.{Table, Sized, rowsAll, vertex, delivered}
-use Rattle.table.specs.Answers.{okLengths, refusal, freshTable, stepRefusal, deliverRefusal, deliverTable}
+use Rattle.table.specs.Answers.{okLengths, refusalBy, refusal, freshTable, stepRefusal, deliverRefusal, deliverTable}
 use Rattle.bridge.specs.Bridge.{graphOf, stateOf, Bridged}
 use Rattle.bridge.proofs.Beginning.{fresh-sized}
 use Rattle.bridge.proofs.Theorems.{bridged}
@@ -51,7 +51,7 @@ module _ (net : Network) where
       delivery-cases net u Q U E N (Sized net) (λ e. delivered-sized net u Q U E N r (goes net u Q U E N e .receiver)) r
 
   pub sized-refusal : {t : Table} → refusalOf net ≡ 0 → Sized net t → refusal net t ≡ 0
-  unfolding refusal okLengths
+  unfolding refusal refusalBy okLengths
   sized-refusal {t} right s =
       simp (
         eq-eqb (refusalOf net) 0 right,

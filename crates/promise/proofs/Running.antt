@@ -8,16 +8,15 @@ use lib.Dec.{eqb}
 use borrow.Author.Tests.{eqb-true, eq-eqb, lt-ltb, le-leb}
 use Rattle.relax.specs.Journeys.{Waits}
 use Rattle.relax.proofs.Ends as theory
-use Rattle.stacks.proofs.Tests.{okNumber-yes}
 use Rattle.bits.specs.Bits.{has}
 use Rattle.bits.proofs.LowestBit.{lowest-has}
 use Rattle.words.specs.Words.{firstIn}
 use Rattle.words.specs.declared.Found.{Found}
 use Rattle.words.proofs.Answers.{Here, first-at, first-whole}
-use Rattle.network.specs.Network.{Network, present}
+use Rattle.network.specs.Network.{Network, stacks, present}
 use Rattle.network.proofs.Laws.{valid, present-nodes}
 use Rattle.table.specs.Table.{Table, ceiling, rowsAll, place, nodeAt, destinationAt, numberAt, vertex, delivered, offersTaken}
-use Rattle.table.specs.Answers.{refusal, okMessage, waits, okSender, stepRefusal, deliverRefusal, deliverTable}
+use Rattle.table.specs.Answers.{okMessageIn, waitsIn, okSenderIn, stepRefusalIn, refusal, stepRefusal, deliverRefusal, deliverTable}
 use Rattle.table.specs.Run.{Outcome, after, ends, turn, steps, runOf}
 use Rattle.table.proofs.Rows.{Stack, Row, is-row, of-place, vertex-node, vertex-below}
 use Rattle.bridge.specs.Bridge.{graphOf, stateOf}
@@ -86,12 +85,13 @@ module _ (net : Network) (ok : Network16 net) where
     price = cost-most net ok t r Q D N (λ z. told .priced (cost-is net Q D N q n t ∙ z)) q d n
 
     pub goes-through : stepRefusal net t Q U D N ≡ 0
-    unfolding stepRefusal okMessage waits okSender
+    unfolding stepRefusalIn okMessageIn waitsIn okSenderIn present
     goes-through = simp (
       lt-ltb Q (net .n) q,
       lt-ltb U (net .n) (present-nodes net U Q linked .0),
       lt-ltb D (net .n) d,
-      okNumber-yes (net .p) (net .h) N (n .some) (n .most),
+      le-leb 1 N (n .some),
+      le-leb N (stacks net) (n .most),
       set,
       le-leb (getD (t .cost) (place net Q D N) 0) ceiling price,
       linked,

@@ -16,8 +16,9 @@ use Rattle.table.specs.Table.{Table, nodeAt, destinationAt, numberAt, offersTak
 use Rattle.table.specs.Answers.{refusal, stepRefusal}
 use Rattle.table.specs.Run.{Outcome, Runs, ends, steps, runOf}
 use Rattle.run.specs.Flags.{Flagged}
-use Rattle.run.specs.Turns.{Prepared, turnAt, turnAnswer, Turned, onward}
+use Rattle.run.specs.Turns.{Prepared, turnOf, turnAt, turnAnswer, Turned, onward}
 use Rattle.run.specs.declared.turns.Turn.{Turn}
+use Rattle.table.specs.declared.Delivered.{Delivered}
 use Rattle.table.specs.declared.Ran.{Ran}
 use Rattle.table.proofs.Begins.{Ready, sized-so, begun, stopped}
 use Rattle.table.proofs.Deliveries.{offers-most}
@@ -28,7 +29,7 @@ use Rattle.run.proofs.Running.{Going, starts, goes-on, stops, all-done,
 pub offers-few : (net : Network) (t : Table) (x : ℕ) → refusalOf net ≡ 0 → turnAnswer net t ≡ Turn.Offers x → x ≤ 16384
 offers-few net t x right e = go (firstIn (t .waiting)) e
   where
-    pick : (i U : ℕ) (b : Bool) → cond b (Turn.Offers (offersTaken net t (nodeAt net i) U (destinationAt net i) (numberAt net i))) (Turn.Ends (stepRefusal net t (nodeAt net i) U (destinationAt net i) (numberAt net i))) ≡ Turn.Offers x
+    pick : (i U : ℕ) (b : Bool) → turnOf (cond b (Delivered.Rows (offersTaken net t (nodeAt net i) U (destinationAt net i) (numberAt net i))) (Delivered.Refused (stepRefusal net t (nodeAt net i) U (destinationAt net i) (numberAt net i)))) ≡ Turn.Offers x
         → x ≤ 16384
     pick i U true d =
         let q : offersTaken net t (nodeAt net i) U (destinationAt net i) (numberAt net i) ≡ x = cc in

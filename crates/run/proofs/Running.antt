@@ -10,7 +10,9 @@ use Rattle.network.specs.Network.{Network}
 use Rattle.table.specs.Table.{Table, nodeAt, destinationAt, numberAt, delivered, offersTaken}
 use Rattle.table.specs.Answers.{stepRefusal}
 use Rattle.table.specs.Run.{Outcome, after, ends, turn, steps}
-use Rattle.run.specs.Turns.{turnAt, tableAt, turnAnswer, turnTable, onward}
+use Rattle.table.specs.declared.Delivered.{Delivered}
+use Rattle.step.specs.InNetwork.{stepTable}
+use Rattle.run.specs.Turns.{turnOf, turnAt, tableAt, turnAnswer, turnTable, onward}
 use Rattle.run.specs.declared.turns.Turn.{Turn}
 
 -- two outcomes are equal by their parts
@@ -18,29 +20,36 @@ outcome : (a b : Outcome) → a .done ≡ b .done → a .offers ≡ b .offers �
 outcome a b d o r t = λ i. record { done = d i; offers = o i; refused = r i; table = t i }
 
 module _ (net : Network) (t : Table) (rest : Table → Outcome) where
+  -- the step of a turn, where it is refused and where not
+  module _ (i U : ℕ) where
+    abbrev refused : ℕ
+    refused = stepRefusal net t (nodeAt net i) U (destinationAt net i) (numberAt net i)
+
+    abbrev offers : ℕ
+    offers = offersTaken net t (nodeAt net i) U (destinationAt net i) (numberAt net i)
+
+    abbrev changed : Table
+    changed = delivered net t (nodeAt net i) U (destinationAt net i) (numberAt net i)
+
+    step-offers : (b : Bool) (o : ℕ) → turnOf (cond b (Delivered.Rows offers) (Delivered.Refused refused)) ≡ Turn.Offers o
+        → cond b (after offers (rest changed)) (ends refused t) ≡ after o (rest (cond b changed t))
+    step-offers true o d = let q : offers ≡ o = cc in ap (λ (x : ℕ). after x (rest changed)) q
+    step-offers false o d = absurd (let z : _≡_ {A = ℕ} 0 1 = cc in omega arith)
+
+    step-ends : (b : Bool) (r : ℕ) → turnOf (cond b (Delivered.Rows offers) (Delivered.Refused refused)) ≡ Turn.Ends r
+        → (cond b (after offers (rest changed)) (ends refused t) ≡ ends r t) × (cond b changed t ≡ t)
+    step-ends true r d = absurd (let z : _≡_ {A = ℕ} 0 1 = cc in omega arith)
+    step-ends false r d = let q : refused ≡ r = cc in (ap (λ (x : ℕ). ends x t) q, refl)
+
   offers-at : (f : Found) (o : ℕ) → turnAt net t f ≡ Turn.Offers o → turn net rest t f ≡ after o (rest (tableAt net t f))
+  unfolding stepTable
   offers-at Found.Nowhere o e = absurd (let z : _≡_ {A = ℕ} 0 1 = cc in omega arith)
-  offers-at (Found.At i U) o e = go (eqb (stepRefusal net t (nodeAt net i) U (destinationAt net i) (numberAt net i)) 0) e
-    where
-      go : (b : Bool) → cond b (Turn.Offers (offersTaken net t (nodeAt net i) U (destinationAt net i) (numberAt net i))) (Turn.Ends (stepRefusal net t (nodeAt net i) U (destinationAt net i) (numberAt net i))) ≡ Turn.Offers o
-          → cond b (after (offersTaken net t (nodeAt net i) U (destinationAt net i) (numberAt net i)) (rest (delivered net t (nodeAt net i) U (destinationAt net i) (numberAt net i)))) (ends (stepRefusal net t (nodeAt net i) U (destinationAt net i) (numberAt net i)) t)
-          ≡ after o (rest (cond b (delivered net t (nodeAt net i) U (destinationAt net i) (numberAt net i)) t))
-      go true d =
-          let q : offersTaken net t (nodeAt net i) U (destinationAt net i) (numberAt net i) ≡ o = cc in
-          ap (λ (x : ℕ). after x (rest (delivered net t (nodeAt net i) U (destinationAt net i) (numberAt net i)))) q
-      go false d = absurd (let z : _≡_ {A = ℕ} 0 1 = cc in omega arith)
+  offers-at (Found.At i U) o e = step-offers i U (eqb (refused i U) 0) o e
 
   ends-at : (f : Found) (r : ℕ) → turnAt net t f ≡ Turn.Ends r → (turn net rest t f ≡ ends r t) × (tableAt net t f ≡ t)
+  unfolding stepTable
   ends-at Found.Nowhere r e = let q : 0 ≡ r = cc in (ap (λ (x : ℕ). ends x t) q, refl)
-  ends-at (Found.At i U) r e = go (eqb (stepRefusal net t (nodeAt net i) U (destinationAt net i) (numberAt net i)) 0) e
-    where
-      go : (b : Bool) → cond b (Turn.Offers (offersTaken net t (nodeAt net i) U (destinationAt net i) (numberAt net i))) (Turn.Ends (stepRefusal net t (nodeAt net i) U (destinationAt net i) (numberAt net i))) ≡ Turn.Ends r
-          → (cond b (after (offersTaken net t (nodeAt net i) U (destinationAt net i) (numberAt net i)) (rest (delivered net t (nodeAt net i) U (destinationAt net i) (numberAt net i)))) (ends (stepRefusal net t (nodeAt net i) U (destinationAt net i) (numberAt net i)) t) ≡ ends r t)
-          × (cond b (delivered net t (nodeAt net i) U (destinationAt net i) (numberAt net i)) t ≡ t)
-      go true d = absurd (let z : _≡_ {A = ℕ} 0 1 = cc in omega arith)
-      go false d =
-          let q : stepRefusal net t (nodeAt net i) U (destinationAt net i) (numberAt net i) ≡ r = cc in
-          (ap (λ (x : ℕ). ends x t) q, refl)
+  ends-at (Found.At i U) r e = step-ends i U (eqb (refused i U) 0) r e
 
 -- ---- what a loop over the turns keeps: done deliveries, their offers and the run that is left make the whole run
 module _ (net : Network) (k : ℕ) (t₀ : Table) where

@@ -22,7 +22,7 @@ use Rattle.table.specs.Table.{Table, nodeAt, destinationAt, numberAt, delivered
 use Rattle.table.specs.Answers.{stepRefusal, deliveredRows}
 use Rattle.table.specs.declared.Delivered.{Delivered}
 use Rattle.step.specs.Step.{Steps}
-use Rattle.step.specs.Network.{stepAnswer, stepTable}
+use Rattle.step.specs.InNetwork.{stepAnswer, stepTable}
 use Rattle.step.proofs.Network.{step-delivers}
 use Rattle.run.specs.Flags.{Flagged}
 use Rattle.run.specs.Turns.{Prepared, Countable, AllEquipped, turnOf, turnAt, tableAt, Turned, flagsAfter}
@@ -75,8 +75,8 @@ module _ (net : Network) (t : Table) (i U : ℕ) (found : firstIn (t .waiting) �
           let c : flags′ ≡ flagsAfter flags U D (offersTaken net t Q U D N) = l ∙ ap (λ (x : Delivered). flagsAfter flags U D (deliveredRows x)) a in
           let right = flags-right net t Q U D N (w .sized) (eqb-true (stepRefusal net t Q U D N) 0 z) (stacks net) flags refl f in
           record {
-            answers = ap turnOf a ∙ sym (ap (turnAt net t) found ∙ simp z);
-            table = b ∙ sym (ap (tableAt net t) found ∙ simp z);
+            answers = ap turnOf e ∙ sym (ap (turnAt net t) found);
+            table = q ∙ sym (ap (tableAt net t) found);
             flagged = subst (λ (x : Table). Flagged (net .n) (stacks net) flags′ (x .waiting)) (sym b) (subst (λ (x : List ℕ). Flagged (net .n) (stacks net) x (delivered net t Q U D N .waiting)) (sym c) right);
           }
       go false z =
@@ -84,8 +84,8 @@ module _ (net : Network) (t : Table) (i U : ℕ) (found : firstIn (t .waiting) �
           let b : after ≡ t = q ∙ simp z in
           let c : flags′ ≡ flags = l ∙ ap (λ (x : Delivered). flagsAfter flags U D (deliveredRows x)) a in
           record {
-            answers = ap turnOf a ∙ sym (ap (turnAt net t) found ∙ simp z);
-            table = b ∙ sym (ap (tableAt net t) found ∙ simp z);
+            answers = ap turnOf e ∙ sym (ap (turnAt net t) found);
+            table = q ∙ sym (ap (tableAt net t) found);
             flagged = subst (λ (x : Table). Flagged (net .n) (stacks net) flags′ (x .waiting)) (sym b) (subst (λ (x : List ℕ). Flagged (net .n) (stacks net) x (t .waiting)) (sym c) f);
           }
 

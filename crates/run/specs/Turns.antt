@@ -4,16 +4,15 @@ use mathlib.Core.Path.{_≡_}
 use mathlib.Core.List.{List, []}
 use mathlib.Core.Bool.{cond}
 use lib.ListN.{getD, set}
-use lib.Dec.{ltb, eqb}
+use lib.Dec.{ltb}
 use Rattle.bits.specs.Bits.{withOne}
 use Rattle.words.specs.Words.{firstIn}
 use Rattle.words.specs.declared.Found.{Found}
 use Rattle.network.specs.Network.{Network, stacks, refusalOf}
-use Rattle.table.specs.Table.{Table, Sized, nodeAt, destinationAt, numberAt, delivered, offersTaken}
-use Rattle.table.specs.Answers.{stepRefusal}
+use Rattle.table.specs.Table.{Table, Sized, nodeAt, destinationAt, numberAt}
 use Rattle.table.specs.Run.{Outcome}
 use Rattle.table.specs.declared.Delivered.{Delivered}
-use Rattle.step.specs.Network.{Equipped}
+use Rattle.step.specs.InNetwork.{Equipped, stepAnswer, stepTable}
 use Rattle.run.specs.Flags.{Flagged}
 use Rattle.run.specs.declared.turns.Turn.{Turn}
 
@@ -44,16 +43,11 @@ module _ (net : Network) (t : Table) where
   -- what the turn finds, and the table after it
   abbrev pub turnAt : Found → Turn
   turnAt Found.Nowhere = Turn.Ends 0
-  turnAt (Found.At i U) =
-      cond (eqb (stepRefusal net t (nodeAt net i) U (destinationAt net i) (numberAt net i)) 0)
-      (Turn.Offers (offersTaken net t (nodeAt net i) U (destinationAt net i) (numberAt net i)))
-      (Turn.Ends (stepRefusal net t (nodeAt net i) U (destinationAt net i) (numberAt net i)))
+  turnAt (Found.At i U) = turnOf (stepAnswer net t (nodeAt net i) U (destinationAt net i) (numberAt net i))
 
   abbrev pub tableAt : Found → Table
   tableAt Found.Nowhere = t
-  tableAt (Found.At i U) =
-      cond (eqb (stepRefusal net t (nodeAt net i) U (destinationAt net i) (numberAt net i)) 0)
-      (delivered net t (nodeAt net i) U (destinationAt net i) (numberAt net i)) t
+  tableAt (Found.At i U) = stepTable net t (nodeAt net i) U (destinationAt net i) (numberAt net i)
 
   abbrev pub turnAnswer : Turn
   turnAnswer = turnAt (firstIn (t .waiting))

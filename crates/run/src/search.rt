@@ -26,7 +26,7 @@ fn search_node(n: usize, stacks: usize, node: usize, flags: &mut [u32], waiting:
     Found::Nowhere
 }
 
-// The same by flags: bit d of flags[u] is set where the block of rows of node u and destination d may hold a message.
+// The first message of all nodes, by their flags: bit d of flags[u] is set where the block of rows of node u and destination d may hold a message.
 pub(crate) fn search_flagged(n: usize, stacks: usize, flags: &mut [u32], waiting: &[u32]) -> Found
     requires { ⌜ (n * (n * stacks) ≤ 524288) × (length (now waiting) ≡ n * (n * stacks)) × Flagged n stacks (now flags) (now waiting) ⌝ }
     ensures { λ r. ⌜ r ≡ firstIn (now (waiting .entry)) ⌝ }

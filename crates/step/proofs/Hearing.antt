@@ -8,14 +8,14 @@ use lib.ListN.{length, getD, set, length-set}
 use borrow.Author.Tests.{le-leb, lt-ltb, eq-eqb}
 use borrow.Rule.Slice.PartMut.{midOf, putMid, same-len-mid}
 use Rattle.bits.specs.Bits.{without}
-use Rattle.hear.specs.Hearing.{Gateway, Message, Rows, taken}
+use Rattle.hear.specs.Hearing.{Gateway, Message, Rows}
 use Rattle.hear.specs.Answers.{messageOf, okHearing, rowsAfter, Hears}
 use Rattle.hear.specs.Answers as hearing
 use Rattle.hear.specs.declared.Heard.{Heard}
-use Rattle.table.specs.Table.{Table, tableOf, ceiling, placeIn, rowsIn, withRowsIn, clearedAt}
+use Rattle.table.specs.Table.{Table, tableOf, ceiling, placeIn, rowsIn, withRowsIn, clearedAt, clearedIn, messageIn, offersIn}
 use Rattle.table.specs.declared.Delivered.{Delivered}
 use Rattle.table.proofs.Rows.{part-long}
-use Rattle.step.specs.Step.{refusalOf, message, rows, tableAfter, Steps}
+use Rattle.step.specs.Step.{tableAfter, Steps}
 use Rattle.step.specs.Steps.{toldOf, answerIn}
 use Rattle.step.specs.declared.Told.{Told}
 use Rattle.step.proofs.Tests.{Passed, stopped}
@@ -44,6 +44,13 @@ pub put-back-long : (xs : List ℕ) (i word from k : ℕ) (ys : List ℕ) → le
 put-back-long xs i word from k ys long = same-len-mid from k (set xs i word) ys long ∙ length-set xs i word
 
 module _ (n : ℕ) (g : Gateway) (link : ℕ) (t : Table) (Q U D N : ℕ) where
+  -- what U hears, and its rows then
+  abbrev message : Message
+  message = messageIn n (g .most) link t Q D N
+
+  abbrev rows : Rows
+  rows = rowsIn (n * g .most) U (clearedIn n (g .most) t Q U D N)
+
   -- a refusal of the tests is the answer, and the table stays
   pub refuses : (k : ℕ) → toldOf n (g .p) (g .most) link t Q U D N ≡ Told.Refused k → Steps n g link t Q U D N (Delivered.Refused k) t
   unfolding tableAfter
@@ -52,7 +59,7 @@ module _ (n : ℕ) (g : Gateway) (link : ℕ) (t : Table) (Q U D N : ℕ) where
       record { answers = simp (r .0) (ap Delivered.Refused (sym (r .1))); table = simp (r .0) }
 
   module _ (i c : ℕ) (x : Passed n (g .p) (g .most) link t Q U D N i c) where
-    nothing-refused : hearing.refusalOf g (message n g link t Q U D N) (rows n g link t Q U D N) ≡ 0
+    nothing-refused : hearing.refusalOf g message rows ≡ 0
     unfolding rowsIn clearedAt
     nothing-refused =
         let z = x .sized in
@@ -61,7 +68,7 @@ module _ (n : ℕ) (g : Gateway) (link : ℕ) (t : Table) (Q U D N : ℕ) where
         let a = part-long n (n * g .most) (t .cost) (z .costs-are) U (k .hears) in
         let b = part-long n (n * g .most) (t .way) (z .ways-are) U (k .hears) in
         let w = part-long n (n * g .most) (set (t .waiting) here (without (getD (t .waiting) here 0) U)) (length-set (t .waiting) here (without (getD (t .waiting) here 0) U) ∙ z .waits-are) U (k .hears) in
-        hear-passes g (message n g link t Q U D N) (rows n g link t Q U D N) (z .some) (z .few) (z .bounded) (omega (arith, k .sends, z .nodes)) (omega (arith, k .known, z .nodes)) (k .numbered) (k .within)
+        hear-passes g message rows (z .some) (z .few) (z .bounded) (omega (arith, k .sends, z .nodes)) (omega (arith, k .known, z .nodes)) (k .numbered) (k .within)
         (omega (arith, a, mul-le-mul-right (g .most) (k .known), suc-mul D (g .most))) (b ∙ sym a) (w ∙ sym a) (omega (arith, x .cost-is, x .priced))
 
     -- with the lists as the code has them: the receiver's part from `from`, k rows long, and the sender's word with the bit cleared
@@ -71,7 +78,7 @@ module _ (n : ℕ) (g : Gateway) (link : ℕ) (t : Table) (Q U D N : ℕ) where
       abbrev left : Table
       left = tableOf (putMid from k (t .cost) (after .costs)) (putMid from k (t .way) (after .ways)) (putMid from k (set (t .waiting) i word) (after .waiting))
 
-      heard-so : Hears g (message n g link t Q U D N) (rows n g link t Q U D N) answer after
+      heard-so : Hears g message rows answer after
       unfolding rowsIn clearedAt
       heard-so = simp (start, long, bit, x .place-is, x .cost-is) at h
 
@@ -80,7 +87,7 @@ module _ (n : ℕ) (g : Gateway) (link : ℕ) (t : Table) (Q U D N : ℕ) where
       delivers r e =
           let none = nothing-refused in
           let y = heard-so in
-          let q : answer ≡ Heard.Rows (taken g (message n g link t Q U D N) (rows n g link t Q U D N)) = y .answers ∙ simp none in
+          let q : answer ≡ Heard.Rows (offersIn n g link t Q U D N) = y .answers ∙ simp none in
           record {
             answers = e ∙ ap answerIn q ∙ simp (x .nothing);
             table = simp (x .nothing, y .costs, y .ways, y .waiting, none, start, long, bit, x .place-is);

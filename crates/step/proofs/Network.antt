@@ -8,10 +8,9 @@ use mathlib.Core.Bool.{Bool, true, false}
 use lib.ListN.{length, getD}
 use lib.Dec.{eqb}
 use borrow.Author.Tests.{le-leb, eq-eqb, eqb-true}
-use Rattle.stacks.specs.Stacks.{okNumber}
 use Rattle.stacks.proofs.Tests.{sizes}
 use Rattle.functions.specs.Functions.{kindOf, fromOf, toOf}
-use Rattle.network.specs.Network.{Network, stacks, link, present, neighbours, refusalOf}
+use Rattle.network.specs.Network.{Network, stacks, link, neighbours, refusalOf}
 use Rattle.network.proofs.Laws.{valid}
 use Rattle.gateways.specs.Gateways.{gridOf}
 use Rattle.gateways.proofs.Laws.{grid-word}
@@ -20,12 +19,12 @@ use Rattle.hear.specs.Answers.{gatewayOf}
 use Rattle.hear.specs.Answers as hearing
 use Rattle.hear.proofs.Laws.{Alike, heard-same, taken-same}
 use Rattle.table.specs.Table.{Table, Sized, rowsOf, gateway, message, cleared, delivered, offersTaken}
-use Rattle.table.specs.Answers.{okMessage, waits, okSender, stepRefusal}
+use Rattle.table.specs.Answers.{stepRefusal}
 use Rattle.table.specs.declared.Delivered.{Delivered}
 use Rattle.table.proofs.Deliveries.{goes}
-use Rattle.step.specs.Step.{okSizes, okNumbers, tableAfter, Steps}
+use Rattle.step.specs.Step.{okSizes, tableAfter, Steps}
 use Rattle.step.specs.Step as step
-use Rattle.step.specs.Network.{Equipped, stepAnswer, stepTable}
+use Rattle.step.specs.InNetwork.{Equipped, stepAnswer, stepTable}
 
 -- ---- the gateway that `step` is told of is the one of the network
 grid-same : (k : ℕ) (n p : ℕ) (functions : List ℕ) (U : ℕ) → k < 3 → hearing.gridOf k (gridOf n p functions U 0) (gridOf n p functions U 1) (gridOf n p functions U 2) ≡ gridOf n p functions U k
@@ -60,7 +59,7 @@ module _ (net : Network) (t : Table) (right : refusalOf net ≡ 0) (sized : Size
       simp (le-leb 1 (net .p) (z .some), le-leb (net .p) 8 (z .few), le-leb (net .n) 32 (v .few), le-leb (stacks net) 16384 few, sized .costs, sized .ways, sized .waits, eq-eqb (net .n * (net .n * stacks net)) (net .n * (net .n * stacks net)) refl)
 
   same-refusal : step.refusalOf (net .n) (net .p) (stacks net) (link net U Q) t Q U D N ≡ stepRefusal net t Q U D N
-  unfolding step.refusalOf step.waits step.okSender okNumbers stepRefusal okMessage okNumber waits okSender present
+  unfolding step.refusalOf
   same-refusal = simp sizes-right
 
   -- ---- and does what the delivery does

@@ -13,9 +13,11 @@ use borrow.Author.Tests.{ltb-true, leb-true, eqb-true, lt-ltb, le-leb, lt-leb}
 use borrow.Rule.Slice.PartMut.{midOf}
 use Rattle.lists.proofs.Tests.{both}
 use Rattle.bits.specs.Bits.{has}
-use Rattle.table.specs.Table.{Table, ceiling}
+use Rattle.table.specs.Table.{Table, ceiling, placeIn, costIn}
+use Rattle.table.specs.Answers.{okMessageIn, waitsIn, okSenderIn, stepRefusalIn}
 use Rattle.table.proofs.Rows.{place-parts}
-use Rattle.step.specs.Step.{okSizes, okNumbers, at, told, waits, okSender, refusalOf}
+use Rattle.table.proofs.Order.{four-first, five-next, seven-last, then-none, all-pass}
+use Rattle.step.specs.Step.{okSizes, refusalOf}
 use Rattle.step.specs.Steps.{toldOf}
 use Rattle.step.specs.declared.Told.{Told}
 
@@ -55,8 +57,8 @@ pub record Numbers (n s Q U D N : ℕ) : Type 0 where
   pub numbered : 1 ≤ N
   pub within : N ≤ s
 
-pub numbers : (n s Q U D N : ℕ) → okNumbers n s Q U D N ≡ true → Numbers n s Q U D N
-unfolding okNumbers
+pub numbers : (n s Q U D N : ℕ) → okMessageIn n s Q U D N ≡ true → Numbers n s Q U D N
+unfolding okMessageIn
 numbers n s Q U D N e =
     let a = both (ltb Q n) (ltb U n && (ltb D n && (leb 1 N && leb N s))) e in
     let b = both (ltb U n) (ltb D n && (leb 1 N && leb N s)) (a .1) in
@@ -111,76 +113,79 @@ module _ (n p s link : ℕ) (t : Table) (Q U D N : ℕ) where
   unfolding refusalOf
   bad-sizes e = refused 3 (simp e) refl
 
-  pub bad-numbers : Fit → okNumbers n s Q U D N ≡ false → Told.Refused 4 ≡ toldOf n p s link t Q U D N
+  -- sizes that are right: the delivery's own refusals are left
+  fits : Fit → refusalOf n p s link t Q U D N ≡ stepRefusalIn n s link t Q U D N
   unfolding refusalOf
-  bad-numbers fit e = refused 4 (simp (fit, e)) refl
+  fits fit = simp fit
+
+  pub bad-numbers : Fit → okMessageIn n s Q U D N ≡ false → Told.Refused 4 ≡ toldOf n p s link t Q U D N
+  bad-numbers fit e = refused 4 (fits fit ∙ four-first n s link t Q U D N e) refl
 
   -- the place as the code works it out
-  module _ (fit : Fit) (good : okNumbers n s Q U D N ≡ true) (i : ℕ) (here : i ≡ Q * (n * s) + (D * s + (N - 1))) where
-    is-at : i ≡ at n p s link t Q U D N
+  module _ (fit : Fit) (good : okMessageIn n s Q U D N ≡ true) (i : ℕ) (here : i ≡ Q * (n * s) + (D * s + (N - 1))) where
+    is-at : i ≡ placeIn n s Q D N
     is-at = here ∙ sym (place-parts n s Q D N)
 
-    has-here : has (getD (t .waiting) i 0) U ≡ has (getD (t .waiting) (at n p s link t Q U D N) 0) U
+    has-here : has (getD (t .waiting) i 0) U ≡ has (getD (t .waiting) (placeIn n s Q D N) 0) U
     has-here = ap (λ (k : ℕ). has (getD (t .waiting) k 0) U) is-at
 
     pub not-waiting : has (getD (t .waiting) i 0) U ≡ false → Told.Refused 5 ≡ toldOf n p s link t Q U D N
-    unfolding refusalOf waits
-    not-waiting e = refused 5 (simp (fit, good, sym has-here ∙ e)) refl
+    unfolding waitsIn
+    not-waiting e = refused 5 (fits fit ∙ five-next n s link t Q U D N good (sym has-here ∙ e)) refl
 
     module _ (waiting : has (getD (t .waiting) i 0) U ≡ true) (c : ℕ) (costs : c ≡ getD (t .cost) i 0) where
-      there : has (getD (t .waiting) (at n p s link t Q U D N) 0) U ≡ true
+      there : has (getD (t .waiting) (placeIn n s Q D N) 0) U ≡ true
       there = sym has-here ∙ waiting
 
-      is-told : c ≡ told n p s link t Q U D N
+      is-told : c ≡ costIn n s t Q D N
       is-told = costs ∙ ap (λ (k : ℕ). getD (t .cost) k 0) is-at
 
       pub too-dear : ceiling < c → Told.Refused 7 ≡ toldOf n p s link t Q U D N
-      unfolding refusalOf waits okSender
-      too-dear high = refused 7 (simp (fit, good, there, lt-leb (told n p s link t Q U D N) ceiling (omega (arith, is-told)))) refl
+      unfolding waitsIn okSenderIn
+      too-dear high = refused 7 (fits fit ∙ seven-last n s link t Q U D N good there (simp (lt-leb (costIn n s t Q D N) ceiling (omega (arith, is-told))))) refl
 
       pub no-link : c ≤ ceiling → link ≡ 0 → Told.Refused 7 ≡ toldOf n p s link t Q U D N
-      unfolding refusalOf waits okSender
-      no-link low none = refused 7 (simp (fit, good, there, le-leb (told n p s link t Q U D N) ceiling (omega (arith, is-told)), none)) refl
+      unfolding waitsIn okSenderIn
+      no-link low none = refused 7 (fits fit ∙ seven-last n s link t Q U D N good there (simp (le-leb (costIn n s t Q D N) ceiling (omega (arith, is-told)), none))) refl
 
       pub tells : c ≤ ceiling → (link ≡ 0 → ⊥) → Told.Row i c ≡ toldOf n p s link t Q U D N
-      unfolding refusalOf waits okSender
+      unfolding waitsIn okSenderIn
       tells low some =
           let linked : 0 < link = omega (arith, some) in
-          simp (fit, good, there, le-leb (told n p s link t Q U D N) ceiling (omega (arith, is-told)), lt-ltb 0 link linked, is-at, is-told)
+          let sends : (leb (costIn n s t Q D N) ceiling && ltb 0 link) ≡ true = simp (le-leb (costIn n s t Q D N) ceiling (omega (arith, is-told)), lt-ltb 0 link linked) in
+          simp (fits fit ∙ then-none n s link t Q U D N good there sends, is-at, is-told)
 
 -- ---- and what the answers say
-none-refused : (a b c d : Bool) → _≡_ {A = ℕ} (cond a (cond b (cond c (cond d 0 7) 5) 4) 3) 0 → (a ≡ true) × (b ≡ true) × (c ≡ true) × (d ≡ true)
-none-refused true true true true e = (refl, refl, refl, refl)
-none-refused true true true false e = absurd (omega arith)
-none-refused true true false d e = absurd (omega arith)
-none-refused true false c d e = absurd (omega arith)
-none-refused false b c d e = absurd (omega arith)
+none-refused : (a : Bool) (r : ℕ) → _≡_ {A = ℕ} (cond a r 3) 0 → (a ≡ true) × (r ≡ 0)
+none-refused true r e = (refl, e)
+none-refused false r e = absurd (omega arith)
 
 module _ (n p s link : ℕ) (t : Table) (Q U D N : ℕ) where
   pub record Passed (i c : ℕ) : Type 0 where
     pub nothing : refusalOf n p s link t Q U D N ≡ 0
-    pub place-is : i ≡ at n p s link t Q U D N
-    pub cost-is : c ≡ told n p s link t Q U D N
+    pub place-is : i ≡ placeIn n s Q D N
+    pub cost-is : c ≡ costIn n s t Q D N
     pub sized : Sizes n p s (length (t .cost)) (length (t .way)) (length (t .waiting))
     pub numbered : Numbers n s Q U D N
     pub priced : c ≤ ceiling
 
   good : refusalOf n p s link t Q U D N ≡ 0
-      → (okSizes n p s (length (t .cost)) (length (t .way)) (length (t .waiting)) ≡ true) × (okNumbers n s Q U D N ≡ true) × (told n p s link t Q U D N ≤ ceiling)
-  unfolding refusalOf okSender
+      → (okSizes n p s (length (t .cost)) (length (t .way)) (length (t .waiting)) ≡ true) × (okMessageIn n s Q U D N ≡ true) × (costIn n s t Q D N ≤ ceiling)
+  unfolding refusalOf okSenderIn
   good z =
-      let r = none-refused (okSizes n p s (length (t .cost)) (length (t .way)) (length (t .waiting))) (okNumbers n s Q U D N) (waits n p s link t Q U D N) (okSender n p s link t Q U D N) z in
-      (r .0, r .1, leb-true (told n p s link t Q U D N) ceiling (both (leb (told n p s link t Q U D N) ceiling) (ltb 0 link) (r .3) .0))
+      let r = none-refused (okSizes n p s (length (t .cost)) (length (t .way)) (length (t .waiting))) (stepRefusalIn n s link t Q U D N) z in
+      let a = all-pass n s link t Q U D N (r .1) in
+      (r .0, a .0, leb-true (costIn n s t Q D N) ceiling (both (leb (costIn n s t Q D N) ceiling) (ltb 0 link) (a .2) .0))
 
   pub passed : (i c : ℕ) → toldOf n p s link t Q U D N ≡ Told.Row i c → Passed i c
   passed i c e = go (eqb (refusalOf n p s link t Q U D N) 0) refl e
     where
       go : (b : Bool) → eqb (refusalOf n p s link t Q U D N) 0 ≡ b
-          → cond b (Told.Row (at n p s link t Q U D N) (told n p s link t Q U D N)) (Told.Refused (refusalOf n p s link t Q U D N)) ≡ Told.Row i c → Passed i c
+          → cond b (Told.Row (placeIn n s Q D N) (costIn n s t Q D N)) (Told.Refused (refusalOf n p s link t Q U D N)) ≡ Told.Row i c → Passed i c
       go true q d =
           let z = eqb-true (refusalOf n p s link t Q U D N) 0 q in
-          let a : at n p s link t Q U D N ≡ i = cc in
-          let f : told n p s link t Q U D N ≡ c = cc in
+          let a : placeIn n s Q D N ≡ i = cc in
+          let f : costIn n s t Q D N ≡ c = cc in
           record {
             nothing = z;
             place-is = sym a;
@@ -195,7 +200,7 @@ module _ (n p s link : ℕ) (t : Table) (Q U D N : ℕ) where
   stopped k e = go (eqb (refusalOf n p s link t Q U D N) 0) refl e
     where
       go : (b : Bool) → eqb (refusalOf n p s link t Q U D N) 0 ≡ b
-          → cond b (Told.Row (at n p s link t Q U D N) (told n p s link t Q U D N)) (Told.Refused (refusalOf n p s link t Q U D N)) ≡ Told.Refused k
+          → cond b (Told.Row (placeIn n s Q D N) (costIn n s t Q D N)) (Told.Refused (refusalOf n p s link t Q U D N)) ≡ Told.Refused k
           → (eqb (refusalOf n p s link t Q U D N) 0 ≡ false) × (refusalOf n p s link t Q U D N ≡ k)
       go true q d = absurd (let z : _≡_ {A = ℕ} 0 1 = cc in omega arith)
       go false q d = (q, (cc))

@@ -4,7 +4,8 @@ ghost use Prim.Native.Nat.{_<_};
 ghost use lib.ListN.{length, getD};
 ghost use Rattle.hear.specs.Answers.{gatewayOf};
 ghost use Rattle.table.specs.Table.{tableOf};
-ghost use Rattle.step.specs.Step.{okSizes, okNumbers, Steps};
+ghost use Rattle.table.specs.Answers.{okMessageIn};
+ghost use Rattle.step.specs.Step.{okSizes, Steps};
 ghost use Rattle.step.specs.Steps.{toldOf, answerIn};
 use hear::Heard;
 use table::Delivered;
@@ -48,7 +49,7 @@ fn good_numbers(
     destination: usize,
     number: usize,
 ) -> bool
-    ensures { λ r. ⌜ r ≡ okNumbers n stacks sender receiver destination number ⌝ }
+    ensures { λ r. ⌜ r ≡ okMessageIn n stacks sender receiver destination number ⌝ }
 {
     if n <= sender {
         return false;

@@ -15,7 +15,7 @@ use Rattle.network.specs.Answers.{checkedOf}
 use Rattle.network.specs.declared.Checked.{Checked}
 use Rattle.network.proofs.Laws.{checked-valid, checked-refused, valid}
 use Rattle.table.specs.Table.{Table, Sized, rowsEach, rowsAll}
-use Rattle.table.specs.Answers.{okLengths, refusal, readyOf}
+use Rattle.table.specs.Answers.{okLengths, refusalBy, refusal, readyOf}
 
 -- ---- at each test of `ready`
 module _ (net : Network) (costs ways waits s : ℕ) (found : checkedOf net ≡ Checked.Stacks s) where
@@ -26,26 +26,27 @@ module _ (net : Network) (costs ways waits s : ℕ) (found : checkedOf net ≡ C
   rows-are = ap (λ (k : ℕ). net .n * (net .n * k)) (checked-valid net s found .1)
 
   pub costs-long : (costs ≡ net .n * (net .n * s) → ⊥) → Checked.Refused 3 ≡ readyOf net costs ways waits
-  unfolding okLengths
+  unfolding okLengths refusalBy
   costs-long other = simp (eq-eqb (refusalOf net) 0 right, ne-eqb costs (rowsAll net) (λ (e : costs ≡ rowsAll net). other (e ∙ sym rows-are)))
 
   pub ways-long : costs ≡ net .n * (net .n * s) → (ways ≡ net .n * (net .n * s) → ⊥) → Checked.Refused 3 ≡ readyOf net costs ways waits
-  unfolding okLengths
+  unfolding okLengths refusalBy
   ways-long same other =
       simp (eq-eqb (refusalOf net) 0 right, eq-eqb costs (rowsAll net) (same ∙ rows-are), ne-eqb ways (rowsAll net) (λ (e : ways ≡ rowsAll net). other (e ∙ sym rows-are)))
 
   pub waits-long : costs ≡ net .n * (net .n * s) → ways ≡ net .n * (net .n * s) → (waits ≡ net .n * (net .n * s) → ⊥) → Checked.Refused 3 ≡ readyOf net costs ways waits
-  unfolding okLengths
+  unfolding okLengths refusalBy
   waits-long same alike other =
       simp (eq-eqb (refusalOf net) 0 right, eq-eqb costs (rowsAll net) (same ∙ rows-are), eq-eqb ways (rowsAll net) (alike ∙ rows-are), ne-eqb waits (rowsAll net) (λ (e : waits ≡ rowsAll net). other (e ∙ sym rows-are)))
 
   pub all-long : costs ≡ net .n * (net .n * s) → ways ≡ net .n * (net .n * s) → waits ≡ net .n * (net .n * s) → Checked.Stacks s ≡ readyOf net costs ways waits
-  unfolding okLengths
+  unfolding okLengths refusalBy
   all-long same alike too =
       simp (eq-eqb (refusalOf net) 0 right, eq-eqb costs (rowsAll net) (same ∙ rows-are), eq-eqb ways (rowsAll net) (alike ∙ rows-are), eq-eqb waits (rowsAll net) (too ∙ rows-are))
       (ap Checked.Stacks (checked-valid net s found .1))
 
 pub not-ready : (net : Network) (costs ways waits r : ℕ) → checkedOf net ≡ Checked.Refused r → Checked.Refused r ≡ readyOf net costs ways waits
+unfolding refusalBy
 not-ready net costs ways waits r found =
     let a = checked-refused net r found in
     simp (ne-eqb (refusalOf net) 0 (λ (e : refusalOf net ≡ 0). omega (arith, a .0, a .1))) (ap Checked.Refused (sym (a .0)))
@@ -73,11 +74,11 @@ pub record Ready (net : Network) (t : Table) (s : ℕ) : Type 0 where
   pub waiting-long : length (t .waiting) ≡ rowsAll net
 
 pub is-ready : (net : Network) (t : Table) (s : ℕ) → readyOf net (length (t .cost)) (length (t .way)) (length (t .waiting)) ≡ Checked.Stacks s → Ready net t s
-unfolding okLengths refusal
+unfolding okLengths refusal refusalBy
 is-ready net t s e = go (eqb (refusalOf net) 0) refl (okLengths net (length (t .cost)) (length (t .way)) (length (t .waiting))) refl e
   where
     go : (a : Bool) → eqb (refusalOf net) 0 ≡ a → (b : Bool) → okLengths net (length (t .cost)) (length (t .way)) (length (t .waiting)) ≡ b
-        → cond a (cond b (Checked.Stacks (stacks net)) (Checked.Refused 3)) (Checked.Refused (refusalOf net)) ≡ Checked.Stacks s → Ready net t s
+        → cond (eqb (cond a (cond b 0 3) (refusalOf net)) 0) (Checked.Stacks (stacks net)) (Checked.Refused (cond a (cond b 0 3) (refusalOf net))) ≡ Checked.Stacks s → Ready net t s
     go true u true v d =
         let l = both (eqb (length (t .cost)) (rowsAll net)) (eqb (length (t .way)) (rowsAll net) && eqb (length (t .waiting)) (rowsAll net)) v in
         let m = both (eqb (length (t .way)) (rowsAll net)) (eqb (length (t .waiting)) (rowsAll net)) (l .1) in
@@ -94,11 +95,11 @@ is-ready net t s e = go (eqb (refusalOf net) 0) refl (okLengths net (length (t .
 
 pub is-refused : (net : Network) (t : Table) (r : ℕ) → readyOf net (length (t .cost)) (length (t .way)) (length (t .waiting)) ≡ Checked.Refused r
     → (refusal net t ≡ r) × (1 ≤ r)
-unfolding refusal
+unfolding refusal refusalBy
 is-refused net t r e = go (eqb (refusalOf net) 0) refl (okLengths net (length (t .cost)) (length (t .way)) (length (t .waiting))) refl e
   where
     go : (a : Bool) → eqb (refusalOf net) 0 ≡ a → (b : Bool) → okLengths net (length (t .cost)) (length (t .way)) (length (t .waiting)) ≡ b
-        → cond a (cond b (Checked.Stacks (stacks net)) (Checked.Refused 3)) (Checked.Refused (refusalOf net)) ≡ Checked.Refused r → (refusal net t ≡ r) × (1 ≤ r)
+        → cond (eqb (cond a (cond b 0 3) (refusalOf net)) 0) (Checked.Stacks (stacks net)) (Checked.Refused (cond a (cond b 0 3) (refusalOf net))) ≡ Checked.Refused r → (refusal net t ≡ r) × (1 ≤ r)
     go true u true v d = absurd (let z : _≡_ {A = ℕ} 0 1 = cc in omega arith)
     go true u false v d = let q : 3 ≡ r = cc in (simp (u, v) q, omega arith)
     go false u b v d =

@@ -18,11 +18,12 @@ use Rattle.relax.specs.Graph.{wins}
 use Rattle.stacks.specs.Stacks.{okNumber}
 use Rattle.stacks.proofs.Tests.{within}
 use Rattle.bits.specs.Bits.{has, without, withAll}
-use Rattle.network.specs.Network.{Network, present, neighbours}
+use Rattle.network.specs.Network.{Network, stacks, link, present, neighbours}
 use Rattle.hear.specs.Hearing.{Message, Rows, leader, offer, takes, costAt, wayAt, waitingAt, heard, taken}
 use Rattle.hear.proofs.Laws.{heard-long, getD-heard-costs, getD-heard-ways, getD-heard-waiting}
 use Rattle.table.specs.Table.{Table, Sized, rowsIn, withRowsIn, clearedAt, vertex, ceiling, rowsEach, rowsAll, place, rowsOf, gateway, message, cleared, delivered, offersTaken}
-use Rattle.table.specs.Answers.{okMessage, waits, okSender, stepRefusal}
+use Rattle.table.specs.Answers.{okMessageIn, waitsIn, okSenderIn, stepRefusal}
+use Rattle.table.proofs.Order.{all-pass}
 use Rattle.table.proofs.Rows.{Stack, vertex-node, vertex-number, vertex-below, place-split, place-below, part-long, part-read, put-long, put-here, put-there}
 
 -- ---- what a delivery that is not refused may count on
@@ -35,16 +36,10 @@ pub record Goes (net : Network) (t : Table) (Q U D N : ℕ) : Type 0 where
   pub linked : present net U Q ≡ true
   pub priced : getD (t .cost) (place net Q D N) 0 ≤ ceiling
 
-none-refused : (a b c : Bool) → _≡_ {A = ℕ} (cond a (cond b (cond c 0 7) 5) 4) 0 → (a ≡ true) × (b ≡ true) × (c ≡ true)
-none-refused true true true e = (refl, refl, refl)
-none-refused true true false e = absurd (omega arith)
-none-refused true false c e = absurd (omega arith)
-none-refused false b c e = absurd (omega arith)
-
 pub goes : (net : Network) (t : Table) (Q U D N : ℕ) → stepRefusal net t Q U D N ≡ 0 → Goes net t Q U D N
-unfolding stepRefusal okMessage waits okSender
+unfolding okMessageIn waitsIn okSenderIn okNumber present
 goes net t Q U D N e =
-    let r = none-refused (okMessage net t Q U D N) (waits net t Q U D N) (okSender net t Q U D N) e in
+    let r = all-pass (net .n) (stacks net) (link net U Q) t Q U D N e in
     let a = both (ltb Q (net .n)) (ltb U (net .n) && (ltb D (net .n) && okNumber (net .p) (net .h) N)) (r .0) in
     let b = both (ltb U (net .n)) (ltb D (net .n) && okNumber (net .p) (net .h) N) (a .1) in
     let c = both (ltb D (net .n)) (okNumber (net .p) (net .h) N) (b .1) in

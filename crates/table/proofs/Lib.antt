@@ -6,3 +6,4 @@ pub mod Walk
 pub mod Found
 pub mod Rows
 pub mod Deliveries
+pub mod Order

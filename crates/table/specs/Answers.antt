@@ -4,13 +4,12 @@ use mathlib.Core.Bool.{Bool, cond, _&&_}
 use lib.ListN.{length, getD}
 use lib.Dec.{leb, ltb, eqb}
 use Rattle.lists.specs.Lists.{unless}
-use Rattle.stacks.specs.Stacks.{okNumber}
 use Rattle.bits.specs.Bits.{has}
 use Rattle.words.specs.Words.{onesIn, firstIn}
 use Rattle.words.specs.declared.Found.{Found}
-use Rattle.network.specs.Network.{Network, stacks, refusalOf, present}
+use Rattle.network.specs.Network.{Network, stacks, link, refusalOf}
 use Rattle.network.specs.declared.Checked.{Checked}
-use Rattle.table.specs.Table.{Table, ceiling, rowsAll, place, nodeAt, destinationAt, numberAt, fresh, delivered, offersTaken}
+use Rattle.table.specs.Table.{Table, ceiling, placeIn, costIn, rowsAll, nodeAt, destinationAt, numberAt, fresh, delivered, offersTaken}
 use Rattle.table.specs.declared.Counted.{Counted}
 use Rattle.table.specs.declared.First.{First}
 use Rattle.table.specs.declared.Delivered.{Delivered}
@@ -19,25 +18,49 @@ use Rattle.table.specs.declared.Delivered.{Delivered}
 unfoldable pub okLengths : Network → ℕ → ℕ → ℕ → Bool
 okLengths net costs ways waits = eqb costs (rowsAll net) && (eqb ways (rowsAll net) && eqb waits (rowsAll net))
 
+-- refusals 1, 2 and 3, which every call tests first
+unfoldable pub refusalBy : Network → ℕ → ℕ → ℕ → ℕ
+refusalBy net costs ways waits = cond (eqb (refusalOf net) 0) (unless (okLengths net costs ways waits) 3 0) (refusalOf net)
+
 -- ready, with which every call begins: how many stacks there are where neither the network nor a slice's length is refused
 abbrev pub readyOf : Network → ℕ → ℕ → ℕ → Checked
 readyOf net costs ways waits =
-    cond (eqb (refusalOf net) 0) (cond (okLengths net costs ways waits) (Checked.Stacks (stacks net)) (Checked.Refused 3)) (Checked.Refused (refusalOf net))
+    cond (eqb (refusalBy net costs ways waits) 0) (Checked.Stacks (stacks net)) (Checked.Refused (refusalBy net costs ways waits))
+
+-- ---- deliver's refusals once the network and the table are found right, with n nodes and s stacks
+-- refusal 4: "node not below n, .. stack number 0 or above S"
+unfoldable pub okMessageIn : ℕ → ℕ → ℕ → ℕ → ℕ → ℕ → Bool
+okMessageIn n s Q U D N = ltb Q n && (ltb U n && (ltb D n && (leb 1 N && leb N s)))
+
+-- refusal 5: "the waiting bit is not set"
+unfoldable pub waitsIn : ℕ → ℕ → Table → ℕ → ℕ → ℕ → ℕ → Bool
+waitsIn n s t Q U D N = has (getD (t .waiting) (placeIn n s Q D N) 0) U
+
+-- refusal 7: "sender's cost above the ceiling, or no link U to V"; the link back costs `back`, 0 where there is none
+unfoldable pub okSenderIn : ℕ → ℕ → ℕ → Table → ℕ → ℕ → ℕ → Bool
+okSenderIn n s back t Q D N = leb (costIn n s t Q D N) ceiling && ltb 0 back
+
+-- the first of them that applies; 0 where none does
+unfoldable pub stepRefusalIn : ℕ → ℕ → ℕ → Table → ℕ → ℕ → ℕ → ℕ → ℕ
+stepRefusalIn n s back t Q U D N = unless (okMessageIn n s Q U D N) 4 (unless (waitsIn n s t Q U D N) 5 (unless (okSenderIn n s back t Q D N) 7 0))
+
+-- with this refusal, 0 for none: what a delivery answers, and the table that a call leaves
+abbrev pub answerBy : ℕ → ℕ → Delivered
+answerBy refusal rows = cond (eqb refusal 0) (Delivered.Rows rows) (Delivered.Refused refusal)
+
+abbrev pub tableBy : ℕ → Table → Table → Table
+tableBy refusal after before = cond (eqb refusal 0) after before
 
 module _ (net : Network) (t : Table) where
-  abbrev pub okTable : Bool
-  okTable = okLengths net (length (t .cost)) (length (t .way)) (length (t .waiting))
-
-  -- refusals 1, 2 and 3, which every call tests first
   unfoldable pub refusal : ℕ
-  refusal = cond (eqb (refusalOf net) 0) (unless okTable 3 0) (refusalOf net)
+  refusal = refusalBy net (length (t .cost)) (length (t .way)) (length (t .waiting))
 
   -- fresh: "It answers the count of waiting bits."
   abbrev pub freshAnswer : Counted
   freshAnswer = cond (eqb refusal 0) (Counted.Messages (onesIn (fresh net .waiting))) (Counted.Refused refusal)
 
   unfoldable pub freshTable : Table
-  freshTable = cond (eqb refusal 0) (fresh net) t
+  freshTable = tableBy refusal (fresh net) t
 
   -- count: "The count of waiting messages is the number of one bits in all waiting words"
   abbrev pub countAnswer : Counted
@@ -52,30 +75,28 @@ module _ (net : Network) (t : Table) where
   firstAnswer = cond (eqb refusal 0) (firstOf (firstIn (t .waiting))) (First.Refused refusal)
 
   module _ (Q U D N : ℕ) where
-    -- refusal 4: "node not below n, .. stack number 0 or above S"
-    unfoldable pub okMessage : Bool
-    okMessage = ltb Q (net .n) && (ltb U (net .n) && (ltb D (net .n) && okNumber (net .p) (net .h) N))
+    -- of this network refusals 4, 5 and 7
+    abbrev pub okMessage : Bool
+    okMessage = okMessageIn (net .n) (stacks net) Q U D N
 
-    -- refusal 5: "the waiting bit is not set"
-    unfoldable pub waits : Bool
-    waits = has (getD (t .waiting) (place net Q D N) 0) U
+    abbrev pub waits : Bool
+    waits = waitsIn (net .n) (stacks net) t Q U D N
 
-    -- refusal 7: "sender's cost above the ceiling, or no link U to V"
-    unfoldable pub okSender : Bool
-    okSender = leb (getD (t .cost) (place net Q D N) 0) ceiling && present net U Q
+    abbrev pub okSender : Bool
+    okSender = okSenderIn (net .n) (stacks net) (link net U Q) t Q D N
 
-    -- deliver's refusals once the network and the table are found right, and all of them in order
-    unfoldable pub stepRefusal : ℕ
-    stepRefusal = unless okMessage 4 (unless waits 5 (unless okSender 7 0))
+    abbrev pub stepRefusal : ℕ
+    stepRefusal = stepRefusalIn (net .n) (stacks net) (link net U Q) t Q U D N
 
+    -- all of deliver's refusals, its answer and the table after it
     unfoldable pub deliverRefusal : ℕ
     deliverRefusal = cond (eqb refusal 0) stepRefusal refusal
 
     abbrev pub deliverAnswer : Delivered
-    deliverAnswer = cond (eqb deliverRefusal 0) (Delivered.Rows (offersTaken net t Q U D N)) (Delivered.Refused deliverRefusal)
+    deliverAnswer = answerBy deliverRefusal (offersTaken net t Q U D N)
 
     unfoldable pub deliverTable : Table
-    deliverTable = cond (eqb deliverRefusal 0) (delivered net t Q U D N) t
+    deliverTable = tableBy deliverRefusal (delivered net t Q U D N) t
 
 -- "A refusal returns its number and zeros": the refusal number of an answer, 0 where nothing is refused, and the values that go with it.
 abbrev pub countedRefusal : Counted → ℕ

@@ -7,8 +7,9 @@ use lib.ListN.{length, getD, set}
 use lib.Dec.{leb, eqb}
 use borrow.Rule.Slice.PartMut.{midOf, putMid}
 use Rattle.lists.specs.Lists.{tabulate}
+use Rattle.relax.specs.Graph as graph
 use Rattle.network.specs.Network.{Network, stacks, link, neighbours}
-use Rattle.gateways.specs.Gateways.{word, accepts}
+use Rattle.gateways.specs.Gateways.{word, receivesAt}
 use Rattle.bits.specs.Bits.{without}
 use Rattle.hear.specs.Hearing.{Gateway, Message, Rows, heard, taken}
 
@@ -23,7 +24,7 @@ tableOf cost way waiting = record { cost = cost; way = way; waiting = waiting }
 
 -- "4,294,967,295 is no row"; "65,535 where there is no row or the packet is delivered here"; "here called the ceiling"
 abbrev pub noRow : ℕ
-noRow = 4294967295
+noRow = graph.noRow
 
 abbrev pub noWay : ℕ
 noWay = 65535
@@ -34,6 +35,10 @@ ceiling = 2147303427
 -- "The row for node U, destination D, stack number N is at (U x n + D) x S + N - 1."
 abbrev pub placeIn : ℕ → ℕ → ℕ → ℕ → ℕ → ℕ
 placeIn n s U D N = (U * n + D) * s + (N - 1)
+
+-- "For each D and each protocol x that D accepts, the row at D for D and stack x": the stack of one protocol x has number x + 1
+abbrev pub homeIn : ℕ → ℕ → List ℕ → ℕ → ℕ → ℕ → Bool
+homeIn n p functions U D N = eqb U D && (leb N p && receivesAt n p functions D (N - 1))
 
 -- where each gateway has so many rows: those of gateway U, which stand together, and the table with other rows in their place
 unfoldable pub rowsIn : ℕ → ℕ → Table → Rows
@@ -53,6 +58,28 @@ withRowsIn each U t r = record {
 -- the table with bit U cleared in the row at a place
 unfoldable pub clearedAt : Table → ℕ → ℕ → Table
 clearedAt t at U = record { cost = t .cost; way = t .way; waiting = set (t .waiting) at (without (getD (t .waiting) at 0) U) }
+
+-- ---- with n nodes and s stacks, the delivery of the message from Q to U about destination D and stack number N
+-- "Bit U in V's row for (D, H') is cleared."
+abbrev pub clearedIn : ℕ → ℕ → Table → ℕ → ℕ → ℕ → ℕ → Table
+clearedIn n s t Q U D N = clearedAt t (placeIn n s Q D N) U
+
+-- "Let c be that row's cost": the message carries the cost that the sender's row has now
+abbrev pub costIn : ℕ → ℕ → Table → ℕ → ℕ → ℕ → ℕ
+costIn n s t Q D N = getD (t .cost) (placeIn n s Q D N) 0
+
+abbrev pub messageIn : ℕ → ℕ → ℕ → Table → ℕ → ℕ → ℕ → Message
+messageIn n s back t Q D N = record { sender = Q; destination = D; number = N; cost = costIn n s t Q D N; link = back }
+
+-- g is the gateway U, and `back` what its link to Q costs: the table after the delivery, and "how many rows took an offer"
+module _ (n : ℕ) (g : Gateway) (back : ℕ) (t : Table) (Q U D N : ℕ) where
+  abbrev pub deliveredIn : Table
+  deliveredIn =
+      withRowsIn (n * g .most) U (clearedIn n (g .most) t Q U D N)
+      (heard g (messageIn n (g .most) back t Q D N) (rowsIn (n * g .most) U (clearedIn n (g .most) t Q U D N)))
+
+  abbrev pub offersIn : ℕ
+  offersIn = taken g (messageIn n (g .most) back t Q D N) (rowsIn (n * g .most) U (clearedIn n (g .most) t Q U D N))
 
 module _ (net : Network) where
   -- how many rows one gateway has, and how many there are in all
@@ -86,9 +113,9 @@ module _ (net : Network) where
   abbrev pub numberOf : ℕ → ℕ
   numberOf v = v % stacks net + 1
 
-  -- "For each D and each protocol x that D accepts, the row at D for D and stack x": the stack of one protocol x has number x + 1
+  -- of this network the homes
   unfoldable pub home : ℕ → ℕ → ℕ → Bool
-  home U D N = eqb U D && (leb N (net .p) && accepts net D (N - 1))
+  home U D N = homeIn (net .n) (net .p) (net .functions) U D N
 
   abbrev pub homeAt : ℕ → Bool
   homeAt i = home (nodeAt i) (destinationAt i) (numberAt i)
@@ -101,31 +128,26 @@ module _ (net : Network) where
     waiting = tabulate rowsAll (λ i. cond (homeAt i) (neighbours net (nodeAt i)) 0);
   }
 
-  -- of this network the rows of one gateway, and the table with other rows in their place
+  -- of this network the rows of one gateway
   abbrev pub rowsOf : ℕ → Table → Rows
   rowsOf U t = rowsIn rowsEach U t
-
-  abbrev pub withRows : ℕ → Table → Rows → Table
-  withRows U t r = withRowsIn rowsEach U t r
 
   -- the gateway U as the one that hears
   abbrev pub gateway : ℕ → Gateway
   gateway U = record { p = net .p; most = stacks net; neighbours = neighbours net U; words = word net U }
 
-  -- "Let c be that row's cost": the message from Q to U about destination D and stack number N carries the cost that its row has now
+  -- of this network the delivery of the message from Q to U about destination D and stack number N
   abbrev pub message : Table → ℕ → ℕ → ℕ → ℕ → Message
-  message t Q U D N = record { sender = Q; destination = D; number = N; cost = getD (t .cost) (place Q D N) 0; link = link net U Q }
+  message t Q U D N = messageIn (net .n) (stacks net) (link net U Q) t Q D N
 
-  -- "Bit U in V's row for (D, H') is cleared."
   abbrev pub cleared : Table → ℕ → ℕ → ℕ → ℕ → Table
-  cleared t Q U D N = clearedAt t (place Q D N) U
+  cleared t Q U D N = clearedIn (net .n) (stacks net) t Q U D N
 
-  -- the table after the delivery, and "how many rows took an offer"
   unfoldable pub delivered : Table → ℕ → ℕ → ℕ → ℕ → Table
-  delivered t Q U D N = withRows U (cleared t Q U D N) (heard (gateway U) (message t Q U D N) (rowsOf U (cleared t Q U D N)))
+  delivered t Q U D N = deliveredIn (net .n) (gateway U) (link net U Q) t Q U D N
 
   unfoldable pub offersTaken : Table → ℕ → ℕ → ℕ → ℕ → ℕ
-  offersTaken t Q U D N = taken (gateway U) (message t Q U D N) (rowsOf U (cleared t Q U D N))
+  offersTaken t Q U D N = offersIn (net .n) (gateway U) (link net U Q) t Q U D N
 
 -- a table whose slices have the right length
 pub record Sized (net : Network) (t : Table) : Type 0 where

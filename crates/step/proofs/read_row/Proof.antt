@@ -9,7 +9,8 @@ use borrow.Author.Needs.{needs}
 use borrow.Author.Tests.{not-true, not-false}
 use Rattle.bits.specs.Bits.{has}
 use Rattle.table.specs.Table.{Table, tableOf}
-use Rattle.step.specs.Step.{okSizes, okNumbers}
+use Rattle.table.specs.Answers.{okMessageIn}
+use Rattle.step.specs.Step.{okSizes}
 use Rattle.step.proofs.Tests.{Sizes, sizes, numbers, Room, room, in-whole, bad-sizes, bad-numbers, not-waiting, too-dear, no-link, tells}
 use Rattle.step.proofs.read_row.Statement.{statement}
 use Rattle.step.proofs.read_row.Tie as tie
@@ -21,7 +22,7 @@ abbrev Fits : tie.Start → Type 0
 Fits s = let a = s .args in okSizes (a .n) (a .p) (a .stacks) (length (now (a .cost))) (length (now (a .way))) (length (now (a .waiting))) ≡ true
 
 abbrev Good : tie.Start → Type 0
-Good s = let a = s .args in okNumbers (a .n) (a .stacks) (a .sender) (a .receiver) (a .destination) (a .number) ≡ true
+Good s = let a = s .args in okMessageIn (a .n) (a .stacks) (a .sender) (a .receiver) (a .destination) (a .number) ≡ true
 
 -- where the row stands, as the code works it out
 abbrev inner : tie.Start → ℕ

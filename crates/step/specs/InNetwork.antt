@@ -1,13 +1,11 @@
--- A step in a network that is right: what deliver and run make of it.
+-- A step in a network and a table that are right, as deliver and run take it; no public contract cites it.
 use Prim.Native.Nat.{ℕ}
 use mathlib.Core.Path.{_≡_}
 use mathlib.Core.List.{List}
-use mathlib.Core.Bool.{cond}
-use lib.Dec.{eqb}
 use Rattle.network.specs.Network.{Network, neighbours}
 use Rattle.gateways.specs.Gateways.{gridOf}
 use Rattle.table.specs.Table.{Table, delivered, offersTaken}
-use Rattle.table.specs.Answers.{stepRefusal}
+use Rattle.table.specs.Answers.{stepRefusal, answerBy, tableBy}
 use Rattle.table.specs.declared.Delivered.{Delivered}
 
 -- the neighbours and the grids that a step is handed are those of the receiver U
@@ -17,10 +15,10 @@ pub record Equipped (net : Network) (U near : ℕ) (convert wrap unwrap : List (
   pub wraps : wrap ≡ gridOf (net .n) (net .p) (net .functions) U 1
   pub unwraps : unwrap ≡ gridOf (net .n) (net .p) (net .functions) U 2
 
--- a delivery in a table that is right
+-- what it answers, and the table that it leaves
 module _ (net : Network) (t : Table) (Q U D N : ℕ) where
   abbrev pub stepAnswer : Delivered
-  stepAnswer = cond (eqb (stepRefusal net t Q U D N) 0) (Delivered.Rows (offersTaken net t Q U D N)) (Delivered.Refused (stepRefusal net t Q U D N))
+  stepAnswer = answerBy (stepRefusal net t Q U D N) (offersTaken net t Q U D N)
 
   unfoldable pub stepTable : Table
-  stepTable = cond (eqb (stepRefusal net t Q U D N) 0) (delivered net t Q U D N) t
+  stepTable = tableBy (stepRefusal net t Q U D N) (delivered net t Q U D N) t
