@@ -1,58 +1,96 @@
--- What `look` answers at each test: the row's cost c and way w are plain numbers here, and lookAt's at the end.
-use Prim.Native.Nat.{ℕ, _+_, _-_, _*_, _/_, _%_, _≤_, _<_}
+-- What `look` answers at each test: the row's cost c, way w and resulting stack number M are plain numbers here, and lookOf's and lookAt's at the end.
+use Prim.Native.Nat.{ℕ, zero, suc, _+_, _-_, _*_, _/_, _%_, _≤_, _<_}
 use native.Mathlib.Nat.{mul-le-mul}
 use native.Mathlib.Omega.{arith}
 use mathlib.Core.Path.{_≡_, refl, sym, ap, ap₂, _∙_}
-use mathlib.Core.Bool.{Bool, true, false, cond, _&&_}
+use mathlib.Core.Bool.{Bool, true, false, cond, _&&_, not}
 use mathlib.Core.Logic.{⊎-elim}
-use mathlib.Core.List.{[], _∷_}
+use mathlib.Core.List.{List, [], _∷_}
 use types.Run.{OneOf}
 use denote.Enum.Declared.{tagOf}
 use lib.ListN.{getD}
 use lib.Dec.{leb, ltb, eqb}
-use borrow.Author.Tests.{lt-ltb, le-leb, lt-leb, eq-eqb, ne-eqb}
-use Rattle.stacks.proofs.Tests.{within}
-use Rattle.functions.specs.Answers.{appliedOf, numberAfter, movedOf}
+use borrow.Author.Tests.{lt-ltb, le-leb, lt-leb, eq-eqb, ne-eqb, ltb-true, leb-true, not-true, not-false}
+use Rattle.lists.proofs.Tests.{both}
+use Rattle.stacks.specs.Stacks.{number, top, rest}
+use Rattle.functions.specs.Functions.{kindOf, fromOf, toOf}
+use Rattle.functions.specs.Answers.{okMove, moveNumber, movedOf, numberAfter}
 use Rattle.functions.specs.declared.After.{After}
 use Rattle.functions.proofs.After.{the-type}
-use Rattle.functions.proofs.Laws.{moved-applied, leads}
-use Rattle.network.specs.Network.{Network, stacks, link, present, refusalOf}
+use Rattle.functions.proofs.Laws.{moved-applied}
+use Rattle.network.specs.Network.{Network, stacks, link, present}
 use Rattle.network.proofs.Laws.{valid}
-use Rattle.gateways.specs.Gateways.{word, can, accepts}
-use Rattle.table.specs.Table.{Table, noRow, ceiling, rowsAll, place, home}
-use Rattle.table.proofs.Rows.{place-below}
-use Rattle.forward.specs.Forward.{lookAt, okRow, costOf}
-use Rattle.forward.specs.Steps.{Placed, homeAs}
+use Rattle.gateways.specs.Gateways.{word, can}
+use Rattle.table.specs.Table.{Table, noRow, ceiling, placeIn, home}
+use Rattle.packet.specs.Packet.{packetOf, Placed}
+use Rattle.packet.specs.declared.Packet.{Packet}
+use Rattle.packet.proofs.Packets.{is-begun, placed, goes-on}
+use Rattle.forward.specs.Forward.{okWay, answer, okRow, lookAt}
+use Rattle.forward.specs.Answers.{okPlace, costIn, wayIn, resultIn, lookOf, lookupOf}
 use Rattle.forward.specs.declared.Look.{Look}
 
--- the row's place is worked out without wrapping, and lies in both slices
-pub record Room (n s U D N costs ways : ℕ) : Type 0 where
+-- the row's place is worked out without wrapping
+pub record Room (n s U D N : ℕ) : Type 0 where
   pub square : U * n ≤ 1024
   pub near : D < 32
-  pub all : costs ≤ 524288
-  pub in-cost : (U * n + D) * s + (N - 1) < costs
-  pub in-way : (U * n + D) * s + (N - 1) < ways
+  pub low : (U * n + D) * s ≤ 17301504
+  pub some : 1 ≤ N
+  pub most : N ≤ 16384
 
-pub room : (net : Network) (s costs ways U D N : ℕ) → Placed net s costs ways U D N → Room (net .n) s U D N costs ways
-room net s costs ways U D N q =
-    let w = valid net (q .network) in
-    let p : (U * net .n + D) * s + (N - 1) ≡ place net U D N = ap (λ (k : ℕ). (U * net .n + D) * k + (N - 1)) (q .stacks-are) in
-    let low = place-below net U D N (q .here) (q .there) (record { some = q .numbered; most = q .within }) in
-    let few : U ≤ 32 = omega (arith, q .here, w .few) in
-    let whole : rowsAll net ≤ 32 * 16384 = mul-le-mul (w .few) (w .room) in
-    let square : U * net .n ≤ 32 * 32 = mul-le-mul few (w .few) in
+-- what `good_place` answers, as `look` tests it
+pub placed-so : (n s U D N : ℕ) {b : Bool} → b ≡ okPlace n s U D N → not b ≡ false → okPlace n s U D N ≡ true
+placed-so n s U D N {b} is e = sym is ∙ not-false b e
+
+pub room : (n s U D N : ℕ) → okPlace n s U D N ≡ true → Room n s U D N
+unfolding okPlace
+room n s U D N e =
+    let a = both (leb n 32) _ e in
+    let b = both (leb s 16384) _ (a .1) in
+    let c = both (ltb U n) _ (b .1) in
+    let d = both (ltb D n) _ (c .1) in
+    let g = both (leb 1 N) (leb N s) (d .1) in
+    let few : n ≤ 32 = leb-true n 32 (a .0) in
+    let slim : s ≤ 16384 = leb-true s 16384 (b .0) in
+    let here : U < n = ltb-true U n (c .0) in
+    let there : D < n = ltb-true D n (d .0) in
+    let up : U ≤ 32 = omega arith in
+    let square : U * n ≤ 32 * 32 = mul-le-mul up few in
+    let row : U * n + D ≤ 1056 = omega arith in
+    let low : (U * n + D) * s ≤ 1056 * 16384 = mul-le-mul row slim in
     record {
       square = omega arith;
-      near = omega (arith, q .there, w .few);
-      all = omega (arith, q .cost-long);
-      in-cost = omega (arith, q .cost-long);
-      in-way = omega (arith, q .way-long);
+      near = omega arith;
+      low = omega arith;
+      some = leb-true 1 N (g .0);
+      most = omega (arith, leb-true N s (g .1));
     }
 
--- what the answer of `is_home` says
-pub home-is : (net : Network) (U D N : ℕ) {here b : Bool} → here ≡ homeAs (net .n) (net .p) (net .functions) U D N → here ≡ b → home net U D N ≡ b
-unfolding home accepts
-home-is net U D N is e = sym is ∙ e
+-- a function makes no stack of number 0
+some-move : (p most k a b n m : ℕ) → moveNumber p most k a b n ≡ After.Number m → 1 ≤ m
+some-move p most zero a b n m e = go (eqb (top p n) a) e
+  where
+    go : (t : Bool) → cond t (After.Number (p * rest p n + b + 1)) After.NotApplicable ≡ After.Number m → 1 ≤ m
+    go true d = let q : p * rest p n + b + 1 ≡ m = cc in omega arith
+    go false d = absurd (let z : _≡_ {A = ℕ} 0 1 = cc in omega arith)
+some-move p most (suc zero) a b n m e = go (eqb (top p n) a && leb (p * n + b + 1) most) e
+  where
+    go : (t : Bool) → cond t (After.Number (p * n + b + 1)) After.NotApplicable ≡ After.Number m → 1 ≤ m
+    go true d = let q : p * n + b + 1 ≡ m = cc in omega arith
+    go false d = absurd (let z : _≡_ {A = ℕ} 0 1 = cc in omega arith)
+some-move p most (suc (suc k)) a b n m e = go (eqb (top p n) b) (ltb 0 (rest p n)) refl (eqb (top p (rest p n)) a) e
+  where
+    go : (t u : Bool) → ltb 0 (rest p n) ≡ u → (v : Bool) → cond (t && (u && v)) (After.Number (rest p n)) After.NotApplicable ≡ After.Number m → 1 ≤ m
+    go true true h true d = let q : rest p n ≡ m = cc in omega (arith, ltb-true 0 (rest p n) h)
+    go true true h false d = absurd (let z : _≡_ {A = ℕ} 0 1 = cc in omega arith)
+    go true false h v d = absurd (let z : _≡_ {A = ℕ} 0 1 = cc in omega arith)
+    go false u h v d = absurd (let z : _≡_ {A = ℕ} 0 1 = cc in omega arith)
+
+some-number : (p most f n m : ℕ) → movedOf p most f n ≡ After.Number m → 1 ≤ m
+some-number p most f n m e = go (okMove p most f n) e
+  where
+    go : (t : Bool) → cond t (moveNumber p most (kindOf f) (fromOf f) (toOf f) n) (After.Refused 4) ≡ After.Number m → 1 ≤ m
+    go true d = some-move p most (kindOf f) (fromOf f) (toOf f) n m d
+    go false d = absurd (let z : _≡_ {A = ℕ} 0 1 = cc in omega arith)
 
 -- an answer that is no number
 no-number : (a : After) → OneOf (1 ∷ 2 ∷ []) (tagOf the-type a) → numberAfter a ≡ 0
@@ -66,70 +104,89 @@ pub record Costed (c : ℕ) : Type 0 where
   pub some : c ≡ 0 → ⊥
   pub low : c ≤ ceiling
 
-module _ (net : Network) (U N c w : ℕ) where
-  abbrev pub result : ℕ
-  result = numberAfter (appliedOf (net .p) (net .h) (w % 256) N)
+module _ (net : Network) (U c w M : ℕ) where
+  -- what a row answers where the packet is not delivered
+  abbrev pub rowAnswer : Look
+  rowAnswer = answer false (okWay net U c w M) c w M
 
-  unfoldable pub rowOk : Bool
-  rowOk = leb 1 c && (leb c ceiling && (present net U (w / 256) && (can net U (w % 256) && ltb 0 result)))
-
-  -- what a row with this cost and this way answers
-  abbrev pub answerAt : Look
-  answerAt = cond (eqb c noRow) (Look.Refused 6) (cond rowOk (Look.Forward (w / 256) (w % 256) result c) (Look.Refused 7))
-
-  pub no-row : c ≡ noRow → Look.Refused 6 ≡ answerAt
+  pub no-row : c ≡ noRow → Look.Refused 6 ≡ rowAnswer
   no-row e = simp (eq-eqb c noRow e)
 
-  broken : (c ≡ noRow → ⊥) → rowOk ≡ false → Look.Refused 7 ≡ answerAt
+  broken : (c ≡ noRow → ⊥) → okWay net U c w M ≡ false → Look.Refused 7 ≡ rowAnswer
   broken row e = simp (ne-eqb c noRow row, e)
 
-  pub too-cheap : (c ≡ noRow → ⊥) → c ≡ 0 → Look.Refused 7 ≡ answerAt
-  unfolding rowOk
-  too-cheap row e = broken row (simp (lt-leb 1 c (omega arith)))
+  pub too-cheap : c ≡ 0 → Look.Refused 7 ≡ rowAnswer
+  too-cheap e = broken (λ (z : c ≡ noRow). omega arith) (simp (lt-leb 1 c (omega arith)))
 
-  pub too-dear : (c ≡ noRow → ⊥) → (c ≡ 0 → ⊥) → ceiling < c → Look.Refused 7 ≡ answerAt
-  unfolding rowOk
+  pub too-dear : (c ≡ noRow → ⊥) → (c ≡ 0 → ⊥) → ceiling < c → Look.Refused 7 ≡ rowAnswer
   too-dear row some high = broken row (simp (le-leb 1 c (omega arith), lt-leb c ceiling high))
 
   module _ (q : Costed c) {x : ℕ} (is-x : x ≡ link net U (w / 256)) where
-    pub no-link : x ≡ 0 → Look.Refused 7 ≡ answerAt
-    unfolding rowOk present
+    pub no-link : x ≡ 0 → Look.Refused 7 ≡ rowAnswer
+    unfolding present
     no-link e = broken (q .row) (simp (le-leb 1 c (omega arith), le-leb c ceiling (q .low), sym is-x ∙ e))
 
     module _ (linked : x ≡ 0 → ⊥) {y : ℕ} (is-y : y ≡ word net U (w % 256)) where
-      pub no-function : y ≡ 0 → Look.Refused 7 ≡ answerAt
-      unfolding rowOk present can
+      pub no-function : y ≡ 0 → Look.Refused 7 ≡ rowAnswer
+      unfolding present can
       no-function e = broken (q .row) (simp (le-leb 1 c (omega arith), le-leb c ceiling (q .low), lt-ltb 0 (link net U (w / 256)) (omega arith), sym is-y ∙ e))
 
-      module _ (able : y ≡ 0 → ⊥) (right : refusalOf net ≡ 0) {s : ℕ} (stacks-are : s ≡ stacks net) {a : After} (is : a ≡ movedOf (net .p) s (w % 256) N) where
-        -- `moved` with the number of stacks at hand is `applied`
-        applied-is : appliedOf (net .p) (net .h) (w % 256) N ≡ a
-        applied-is = sym (is ∙ ap (λ (k : ℕ). movedOf (net .p) k (w % 256) N) stacks-are ∙ moved-applied (net .p) (net .h) (valid net right .size) (w % 256) N)
+      module _ (able : y ≡ 0 → ⊥) where
+        none-made : M ≡ 0 → Look.Refused 7 ≡ rowAnswer
+        unfolding present can
+        none-made e =
+            broken (q .row) (simp (le-leb 1 c (omega arith), le-leb c ceiling (q .low), lt-ltb 0 (link net U (w / 256)) (omega arith), lt-ltb 0 (word net U (w % 256)) (omega arith), e))
 
-        pub no-result : OneOf (1 ∷ 2 ∷ []) (tagOf the-type a) → Look.Refused 7 ≡ answerAt
-        unfolding rowOk present can
-        no-result told =
-            broken (q .row) (simp (le-leb 1 c (omega arith), le-leb c ceiling (q .low), lt-ltb 0 (link net U (w / 256)) (omega arith), lt-ltb 0 (word net U (w % 256)) (omega arith), applied-is, no-number a told))
+        made : 1 ≤ M → Look.Forward (w / 256) (w % 256) M c ≡ rowAnswer
+        unfolding present can
+        made some =
+            simp (ne-eqb c noRow (q .row), le-leb 1 c (omega arith), le-leb c ceiling (q .low), lt-ltb 0 (link net U (w / 256)) (omega arith), lt-ltb 0 (word net U (w % 256)) (omega arith), lt-ltb 0 M some)
 
-        pub forwards : (m : ℕ) → a ≡ After.Number m → Look.Forward (w / 256) (w % 256) m c ≡ answerAt
-        unfolding rowOk present can
-        forwards m e =
-            let to : appliedOf (net .p) (net .h) (w % 256) N ≡ After.Number m = applied-is ∙ e in
-            let some-m : 1 ≤ m = within (net .p) (net .h) m (leads (net .p) (net .h) (w % 256) N m to .to) .some in
-            simp (ne-eqb c noRow (q .row), le-leb 1 c (omega arith), le-leb c ceiling (q .low), lt-ltb 0 (link net U (w / 256)) (omega arith), lt-ltb 0 (word net U (w % 256)) (omega arith), to, lt-ltb 0 m some-m)
+-- and with what `moved` answers
+module _ (net : Network) (s U N c w : ℕ) (q : Costed c) {x : ℕ} (is-x : x ≡ link net U (w / 256)) (linked : x ≡ 0 → ⊥) {y : ℕ} (is-y : y ≡ word net U (w % 256))
+    (able : y ≡ 0 → ⊥) {a : After} (is : a ≡ movedOf (net .p) s (w % 256) N) where
+  pub no-result : OneOf (1 ∷ 2 ∷ []) (tagOf the-type a) → Look.Refused 7 ≡ rowAnswer net U c w (numberAfter (movedOf (net .p) s (w % 256) N))
+  no-result told = none-made net U c w _ q is-x linked is-y able (ap numberAfter (sym is) ∙ no-number a told)
 
--- ---- lookAt
-module _ (net : Network) (t : Table) (U D N : ℕ) where
-  pub delivered-here : home net U D N ≡ true → Look.Delivered ≡ lookAt net t U D N
-  unfolding lookAt
-  delivered-here e = simp e
+  pub forwards : (m : ℕ) → a ≡ After.Number m → Look.Forward (w / 256) (w % 256) m c ≡ rowAnswer net U c w (numberAfter (movedOf (net .p) s (w % 256) N))
+  forwards m e =
+      let to : movedOf (net .p) s (w % 256) N ≡ After.Number m = sym is ∙ e in
+      made net U c w m q is-x linked is-y able (some-number (net .p) s (w % 256) N m to)
+      ∙ ap (rowAnswer net U c w) (sym (ap numberAfter to))
 
-  -- the row is read with the number of stacks at hand
-  pub row-read : (s c w : ℕ) → home net U D N ≡ false → s ≡ stacks net → c ≡ getD (t .cost) ((U * net .n + D) * s + (N - 1)) 0
-      → w ≡ getD (t .way) ((U * net .n + D) * s + (N - 1)) 0 → {l : Look} → l ≡ answerAt net U N c w → l ≡ lookAt net t U D N
-  unfolding lookAt okRow rowOk
-  row-read s c w away e costs ways {l} is =
-      let p : (U * net .n + D) * s + (N - 1) ≡ place net U D N = ap (λ (k : ℕ). (U * net .n + D) * k + (N - 1)) e in
-      let x : c ≡ costOf net t U D N = costs ∙ ap (λ (i : ℕ). getD (t .cost) i 0) p in
-      let y : w ≡ getD (t .way) (place net U D N) 0 = ways ∙ ap (λ (i : ℕ). getD (t .way) i 0) p in
-      simp away (is ∙ ap₂ (λ (a b : ℕ). answerAt net U N a b) x y)
+-- ---- lookOf
+module _ (net : Network) (s : ℕ) (cost way : List ℕ) (U D N : ℕ) where
+  pub misplaced : {b : Bool} → b ≡ okPlace (net .n) s U D N → not b ≡ true → Look.Refused 4 ≡ lookOf net s cost way U D N
+  misplaced {b} is e = simp (sym is ∙ not-true b e)
+
+  pub delivered-here : okPlace (net .n) s U D N ≡ true → {b : Bool} → b ≡ home net U D N → b ≡ true → Look.Delivered ≡ lookOf net s cost way U D N
+  delivered-here ok is e = simp (ok, sym is ∙ e)
+
+  pub row-read : okPlace (net .n) s U D N ≡ true → {b : Bool} → b ≡ home net U D N → b ≡ false
+      → {l : Look} → l ≡ rowAnswer net U (costIn net s cost way U D N) (wayIn net s cost way U D N) (resultIn net s cost way U D N) → l ≡ lookOf net s cost way U D N
+  row-read ok at-home away is = simp (ok, sym at-home ∙ away) is
+
+-- ---- THE LAW: with the number of stacks at hand it is lookAt
+module _ (net : Network) (t : Table) where
+  pub look-is : (s U D N : ℕ) → Placed net s U D N → lookOf net s (t .cost) (t .way) U D N ≡ lookAt net t U D N
+  unfolding okPlace okRow lookAt
+  look-is s U D N q =
+      let v = valid net (q .network) in
+      let one : 1 * stacks net ≤ net .n * stacks net = mul-le-mul (v .nodes) (omega arith) in
+      let few : stacks net ≤ 16384 = omega (arith, v .room) in
+      let at-S : lookOf net (stacks net) (t .cost) (t .way) U D N ≡ lookAt net t U D N =
+      simp (le-leb (net .n) 32 (v .few), le-leb (stacks net) 16384 few, lt-ltb U (net .n) (q .here), lt-ltb D (net .n) (q .there), le-leb 1 N (q .numbered), le-leb N (stacks net) (q .within))
+      (ap (λ (M : ℕ). answer (home net U D N) (okWay net U (costIn net (stacks net) (t .cost) (t .way) U D N) (wayIn net (stacks net) (t .cost) (t .way) U D N) M)
+      (costIn net (stacks net) (t .cost) (t .way) U D N) (wayIn net (stacks net) (t .cost) (t .way) U D N) M)
+      (ap numberAfter (moved-applied (net .p) (net .h) (v .size) (wayIn net (stacks net) (t .cost) (t .way) U D N % 256) N))) in
+      ap (λ (k : ℕ). lookOf net k (t .cost) (t .way) U D N) (q .stacks-are) ∙ at-S
+
+  -- lookup, once `begin` has told the number of stacks and the packet's
+  pub looked : (U D : ℕ) (stack : List ℕ) (s N : ℕ) {k : Packet} → k ≡ packetOf net t U D stack → k ≡ Packet.Number s N
+      → {l : Look} → l ≡ lookOf net s (t .cost) (t .way) U D N → l ≡ lookupOf net t U D stack
+  looked U D stack s N tells told is =
+      let b = is-begun net t U D stack s N tells told in
+      is
+      ∙ look-is s U D N (placed net t U D stack s N b)
+      ∙ ap (lookAt net t U D) (b .number-is)
+      ∙ goes-on net t U D stack (lookAt net t U D (number (net .p) stack)) Look.Refused s N b

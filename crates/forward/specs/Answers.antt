@@ -1,39 +1,39 @@
--- What lookup and carry answer, for every input: these are the contracts.
-use Prim.Native.Nat.{ℕ}
-use mathlib.Core.Path.{_≡_}
+-- What lookup and look answer, for every input: these are the contracts.
+use Prim.Native.Nat.{ℕ, _%_}
 use mathlib.Core.List.{List}
 use mathlib.Core.Bool.{Bool, cond, _&&_}
+use lib.ListN.{getD}
 use lib.Dec.{leb, ltb, eqb}
-use Rattle.stacks.specs.Stacks.{okStack, number}
+use Rattle.stacks.specs.Stacks.{number}
+use Rattle.functions.specs.Answers.{movedOf, numberAfter}
 use Rattle.network.specs.Network.{Network}
-use Rattle.table.specs.Table.{Table}
+use Rattle.table.specs.Table.{Table, placeIn, home}
 use Rattle.table.specs.Answers.{refusal}
-use Rattle.forward.specs.Forward.{lookAt, Journey, stop, journey}
+use Rattle.packet.specs.Packet.{okPacket}
+use Rattle.forward.specs.Forward.{okWay, answer, lookAt}
 use Rattle.forward.specs.declared.Look.{Look}
-use Rattle.forward.specs.declared.Carried.{Carried}
 
--- refusal 4: "node not below n, protocol not below p, height 0 or above h"
-unfoldable pub okPacket : Network → ℕ → ℕ → List ℕ → Bool
-okPacket net U D stack = ltb U (net .n) && (ltb D (net .n) && okStack (net .p) (net .h) stack)
+abbrev pub lookupOf : Network → Table → ℕ → ℕ → List ℕ → Look
+lookupOf net t U D stack =
+    cond (eqb (refusal net t) 0) (cond (okPacket net U D stack) (lookAt net t U D (number (net .p) stack)) (Look.Refused 4)) (Look.Refused (refusal net t))
 
-module _ (net : Network) (t : Table) (U D : ℕ) (stack : List ℕ) where
-  abbrev pub lookupOf : Look
-  lookupOf = cond (eqb (refusal net t) 0) (cond (okPacket net U D stack) (lookAt net t U D (number (net .p) stack)) (Look.Refused 4)) (Look.Refused (refusal net t))
+-- sizes within which rows can be counted, and a row's numbers: "node not below n, .. stack number 0 or above S" is refusal 4
+unfoldable pub okPlace : ℕ → ℕ → ℕ → ℕ → ℕ → Bool
+okPlace n s U D N = leb n 32 && (leb s 16384 && (ltb U n && (ltb D n && (leb 1 N && leb N s))))
 
-  -- carry: refusals 1 to 4 return zeros; "step limit above 16,384" is 4 too
-  unfoldable pub carryOf : ℕ → Journey
-  carryOf limit =
-      cond (eqb (refusal net t) 0)
-      (cond (okPacket net U D stack && leb limit 16384) (journey net t D limit U (number (net .p) stack)) (stop 0 0 4))
-      (stop 0 0 (refusal net t))
+-- look: for whoever has worked out how many stacks there are: where s is S it answers what lookup does once its tests are made (the law look-is)
+module _ (net : Network) (s : ℕ) (cost way : List ℕ) (U D N : ℕ) where
+  abbrev pub costIn : ℕ
+  costIn = getD cost (placeIn (net .n) s U D N) 0
 
--- what carry answers is this journey
-pub record Carries (j : Journey) (answer : Carried) : Type 0 where
-  pub hops : answer .hops ≡ j .hops
-  pub spent : answer .spent ≡ j .spent
-  pub node : answer .node ≡ j .node
-  pub number : answer .number ≡ j .number
-  pub refused : answer .refused ≡ j .refused
+  abbrev pub wayIn : ℕ
+  wayIn = getD way (placeIn (net .n) s U D N) 0
+
+  abbrev pub resultIn : ℕ
+  resultIn = numberAfter (movedOf (net .p) s (wayIn % 256) N)
+
+  abbrev pub lookOf : Look
+  lookOf = cond (okPlace (net .n) s U D N) (answer (home net U D N) (okWay net U costIn wayIn resultIn) costIn wayIn resultIn) (Look.Refused 4)
 
 -- "A refusal returns its number and zeros": the refusal number of a lookup's answer, 0 where nothing is refused, and the values that go with it.
 abbrev pub lookRefusal : Look → ℕ

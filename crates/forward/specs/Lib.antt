@@ -1,4 +1,3 @@
 -- The definitions of crate forward.
 pub mod Forward
 pub mod Answers
-pub mod Steps

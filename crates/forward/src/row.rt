@@ -1,34 +1,33 @@
-// One lookup, in a network and a table that `begin` found right.
+// One lookup, of the stack of a number.
 ghost use mathlib.Core.Path.{_≡_};
 ghost use mathlib.Core.List.{List};
 ghost use Prim.Native.Nat.{ℕ, _≤_};
-ghost use lib.ListN.{length};
 ghost use Rattle.network.specs.Network.{networkOf};
-ghost use Rattle.table.specs.Table.{tableOf};
-ghost use Rattle.forward.specs.Forward.{lookAt};
-ghost use Rattle.forward.specs.Steps.{Placed, homeAs, wordAs};
+ghost use Rattle.table.specs.Table.{home};
+ghost use Rattle.forward.specs.Answers.{okPlace, lookOf};
 use crate::Look;
 use functions::After;
 
-// What a node's function of a number is written down as: 0, or its price and 1.
-pub(crate) fn function_word(
-    n: usize,
-    p: usize,
-    functions: &[u16],
-    node: usize,
-    function: usize,
-) -> u16
-    ensures { λ r. ⌜ r ≡ wordAs n p (now (functions .entry)) node function ⌝ }
+// Whether a row has these numbers: its place is then worked out without wrapping.
+fn good_place(n: usize, stacks: usize, node: usize, destination: usize, number: usize) -> bool
+    ensures { λ r. ⌜ r ≡ okPlace n stacks node destination number ⌝ }
 {
-    gateways::word_at(
-        n,
-        p,
-        functions,
-        node,
-        function / 64,
-        function / 8 % 8,
-        function % 8,
-    )
+    if 32 < n {
+        return false;
+    }
+    if 16384 < stacks {
+        return false;
+    }
+    if n <= node {
+        return false;
+    }
+    if n <= destination {
+        return false;
+    }
+    if number < 1 {
+        return false;
+    }
+    number <= stacks
 }
 
 // Whether a packet is delivered at the node: it is the destination and accepts the one protocol of the stack.
@@ -41,7 +40,7 @@ fn is_home(
     number: usize,
 ) -> bool
     requires { ⌜ 1 ≤ number ⌝ }
-    ensures { λ r. ⌜ r ≡ homeAs n p (now (functions .entry)) node destination number ⌝ }
+    ensures { λ r. ⌜ ((h : ℕ) (links : List ℕ) → r ≡ home (networkOf n p h links (now (functions .entry))) node destination number) ⌝ }
 {
     if node != destination {
         return false;
@@ -52,9 +51,10 @@ fn is_home(
     gateways::accepts(n, p, functions, destination, number - 1)
 }
 
+// As lookup, of the stack of a number, for a caller that has tested the network and the table and worked out how many stacks there are.
 // Being delivered is tested before the row is read; then the row's cost and way are.
 // (No code reads h: the contract speaks of the network, of which it is a part.)
-pub(crate) fn look(
+pub fn look(
     n: usize,
     p: usize,
     h: usize,
@@ -67,17 +67,21 @@ pub(crate) fn look(
     destination: usize,
     number: usize,
 ) -> Look
-    requires { ⌜ Placed (networkOf n p h (now links) (now functions)) stacks (length (now cost)) (length (now way)) node destination number ⌝ }
     ensures { λ r.
         ⌜
-        ((waiting : List ℕ) → r ≡ lookAt (networkOf n p h (now (links .entry)) (now (functions .entry))) (tableOf (now (cost .entry)) (now (way .entry)) waiting)
-        node destination number)
+        r ≡ lookOf (networkOf n p h (now (links .entry)) (now (functions .entry))) stacks (now (cost .entry)) (now (way .entry)) node destination number
         ⌝ }
 {
+    if !good_place(n, stacks, node, destination, number) {
+        return Look::Refused(4);
+    }
     if is_home(n, p, functions, node, destination, number) {
         return Look::Delivered;
     }
     let at = (node * n + destination) * stacks + (number - 1);
+    if cost.len() <= at {
+        return Look::Refused(7);
+    }
     let paid = cost[at];
     if paid == 4294967295 {
         return Look::Refused(6);
@@ -88,13 +92,23 @@ pub(crate) fn look(
     if 2147303427 < paid {
         return Look::Refused(7);
     }
-    let named = way[at] as usize;
+    let named = network::entry(way, at) as usize;
     let next = named / 256;
     let function = named % 256;
     if network::link_cost(n, links, node, next) == 0 {
         return Look::Refused(7);
     }
-    if function_word(n, p, functions, node, function) == 0 {
+    if gateways::word_at(
+        n,
+        p,
+        functions,
+        node,
+        function / 64,
+        function / 8 % 8,
+        function % 8,
+    )
+        == 0
+    {
         return Look::Refused(7);
     }
     match functions::moved(p, stacks, function, number) {

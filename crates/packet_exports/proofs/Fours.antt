@@ -4,9 +4,8 @@ use mathlib.Core.Path.{_≡_, ap, subst, _∙_}
 use mathlib.Core.List.{List}
 use lib.ListN.{length, set}
 use borrow.Author.Tests.{le-leb, lt-leb}
-use Rattle.forward.specs.Forward.{Journey}
-use Rattle.forward.specs.Answers.{Carries}
-use Rattle.forward.specs.declared.Carried.{Carried}
+use Rattle.carry.specs.Carry.{Journey, Carries}
+use Rattle.carry.specs.declared.Carried.{Carried}
 use Rattle.headers.specs.Answers.{readOf, outOf}
 use Rattle.headers.specs.declared.Read.{Read}
 use Rattle.packing.specs.Packing.{packRefused, packEnd}

@@ -16,7 +16,8 @@ use Rattle.table.specs.Table.{Table, noRow, ceiling, home}
 use Rattle.table.specs.Answers.{refusal}
 use Rattle.table.proofs.Begins.{Ready, divides}
 use Rattle.forward.specs.Forward.{costOf, nextOf, functionOf, resultOf, okRow, lookAt}
-use Rattle.forward.specs.Answers.{okPacket, lookupOf}
+use Rattle.packet.specs.Packet.{okPacket}
+use Rattle.forward.specs.Answers.{lookupOf}
 use Rattle.forward.specs.declared.Look.{Look}
 use Rattle.forward.proofs.Tells.{forward-tells}
 use Rattle.packing.proofs.Refusals.{by-refusal}

@@ -5,7 +5,7 @@ use mathlib.Core.List.{List}
 use mathlib.Core.Bool.{Bool, cond}
 use lib.ListN.{length, getD, set}
 use lib.Dec.{leb, eqb}
-use Rattle.forward.specs.Forward.{Journey}
+use Rattle.carry.specs.Carry.{Journey}
 use Rattle.headers.specs.Answers.{readOf, outOf}
 use Rattle.headers.specs.declared.Read.{Read}
 use Rattle.packing.specs.Packing.{packRefused, packEnd, isRefused, refusalIn, endIn}

@@ -1,5 +1,5 @@
 -- What a private function answers on the way; no public contract cites it.
-use Rattle.forward.specs.declared.Carried.{Carried}
+use Rattle.carry.specs.declared.Carried.{Carried}
 use Rattle.packet_exports.specs.declared.four.Four.{Four}
 
 -- what carry answers, as four numbers and the refusal

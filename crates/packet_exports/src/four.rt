@@ -4,7 +4,7 @@ ghost use Prim.Native.Nat.{_≤_};
 ghost use lib.ListN.{length};
 ghost use Rattle.packet_exports.specs.Four.{FourExported, readFour};
 ghost use Rattle.packet_exports.specs.Steps.{fourOf};
-use forward::Carried;
+use carry::Carried;
 use headers::Read;
 use packing::packed_end;
 

@@ -2,7 +2,8 @@
 ghost use mathlib.Core.Path.{_≡_};
 ghost use Rattle.network.specs.Network.{networkOf};
 ghost use Rattle.table.specs.Table.{tableOf};
-ghost use Rattle.forward.specs.Answers.{carryOf, lookupOf};
+ghost use Rattle.forward.specs.Answers.{lookupOf};
+ghost use Rattle.carry.specs.Carry.{carryOf};
 ghost use Rattle.packet_exports.specs.Packing.{packLook};
 ghost use Rattle.packet_exports.specs.Four.{FourExported, ReadExported, carryFour};
 
@@ -73,7 +74,7 @@ pub extern "C" fn bannogwy_carry(
     if answer.len() < 4 {
         return packed_refused(9);
     }
-    let carried = forward::carry(
+    let carried = carry::carry(
         n,
         p,
         h,

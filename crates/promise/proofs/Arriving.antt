@@ -14,8 +14,9 @@ use Rattle.network.proofs.Laws.{valid}
 use Rattle.table.specs.Table.{Table, noRow, rowsEach, home}
 use Rattle.table.specs.Answers.{refusal}
 use Rattle.table.proofs.Rows.{Stack}
-use Rattle.forward.specs.Forward.{costOf, nextOf, resultOf, Journey, stop, after, journey}
-use Rattle.forward.specs.Answers.{lookupOf, carryOf}
+use Rattle.forward.specs.Forward.{costOf, nextOf, resultOf}
+use Rattle.carry.specs.Carry.{Journey, stop, after, journey, carryOf}
+use Rattle.forward.specs.Answers.{lookupOf}
 use Rattle.forward.specs.declared.Look.{Look}
 use Rattle.promise.specs.Routes.{Network16, Reached, Arrives}
 use Rattle.promise.proofs.Reaching.{reached-refusal}

@@ -29,7 +29,10 @@ use Rattle.table.specs.declared.Counted.{Counted}
 use Rattle.table.specs.declared.First.{First}
 use Rattle.table.specs.declared.Delivered.{Delivered}
 use Rattle.step.specs.Step.{Steps}
-use Rattle.forward.specs.Answers.{Carries, lookupOf, carryOf}
+use Rattle.packet.specs.Packet.{packetOf}
+use Rattle.packet.specs.declared.Packet.{Packet}
+use Rattle.forward.specs.Answers.{lookOf, lookupOf}
+use Rattle.carry.specs.Carry.{Carries, carryOf}
 use Rattle.forward.specs.declared.Look.{Look}
 
 -- what a contract allows is one outcome: of functions that only answer, and of functions that also write
@@ -162,10 +165,18 @@ module _ (net : Network) (t : Table) where
     p .table ∙ sym (q .table),
   )
 
+  -- ---- packet
+  pub begin : (U D : ℕ) (stack : List ℕ) → One (λ (r : Packet). r ≡ packetOf net t U D stack)
+  begin U D stack = one (packetOf net t U D stack)
+
   -- ---- forward
+  pub look : (s U D N : ℕ) → One (λ (r : Look). r ≡ lookOf net s (t .cost) (t .way) U D N)
+  look s U D N = one (lookOf net s (t .cost) (t .way) U D N)
+
   pub lookup : (U D : ℕ) (stack : List ℕ) → One (λ (r : Look). r ≡ lookupOf net t U D stack)
   lookup U D stack = one (lookupOf net t U D stack)
 
+  -- ---- carry
   pub carry : (U D : ℕ) (stack : List ℕ) (limit : ℕ) → One (Carries (carryOf net t U D stack limit))
   carry U D stack limit x y p q = λ i. record {
     hops = (p .hops ∙ sym (q .hops)) i;

@@ -9,7 +9,8 @@ use Rattle.table.specs.Table.{Table}
 use Rattle.table.specs.Answers.{freshAnswer, freshTable, countAnswer, firstAnswer, deliverAnswer, deliverTable}
 use Rattle.table.specs.declared.Delivered.{Delivered}
 use Rattle.table.specs.declared.Ran.{Ran}
-use Rattle.forward.specs.Answers.{lookupOf, carryOf}
+use Rattle.forward.specs.Answers.{lookupOf}
+use Rattle.carry.specs.Carry.{carryOf}
 use Rattle.tally.specs.Tally.{addedTo, afterDelivery, afterRun}
 use Rattle.tally.specs.declared.Tally.{Tally}
 use Rattle.packing.specs.Packing.{packRefused, packEnd}

@@ -14,7 +14,8 @@ use Rattle.table.specs.Table.{fresh, home, rowsIn, withRowsIn, clearedAt, deliv
 use Rattle.table.specs.Answers.{okLengths, refusalBy, refusal, okMessageIn, waitsIn, okSenderIn, stepRefusalIn, deliverRefusal, deliverTable}
 use Rattle.table.specs.Run.{runOf}
 use Rattle.forward.specs.Forward.{okRow, lookAt}
-use Rattle.forward.specs.Answers.{okPacket, carryOf}
+use Rattle.packet.specs.Packet.{okPacket}
+use Rattle.carry.specs.Carry.{carryOf}
 use Rattle.promise.specs.Examples.{Examples}
 
 pub examples : Examples

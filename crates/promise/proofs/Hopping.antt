@@ -18,8 +18,9 @@ use Rattle.network.proofs.Laws.{valid}
 use Rattle.table.specs.Table.{Table, noRow, rowsEach, home, vertex}
 use Rattle.table.specs.Answers.{refusal}
 use Rattle.table.proofs.Rows.{Stack, vertex-below}
-use Rattle.forward.specs.Forward.{costOf, nextOf, functionOf, resultOf, lookAt, journey}
-use Rattle.forward.specs.Answers.{okPacket, carryOf}
+use Rattle.forward.specs.Forward.{costOf, nextOf, functionOf, resultOf, lookAt}
+use Rattle.carry.specs.Carry.{journey, carryOf}
+use Rattle.packet.specs.Packet.{okPacket}
 use Rattle.forward.specs.declared.Look.{Look}
 use Rattle.bridge.specs.Bridge as bridged
 use Rattle.promise.specs.Routes.{Network16, Reached}

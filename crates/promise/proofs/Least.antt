@@ -13,7 +13,8 @@ use Rattle.stacks.specs.Stacks.{number}
 use Rattle.network.specs.Network.{Network}
 use Rattle.table.specs.Table.{Table, noRow, home, vertex}
 use Rattle.forward.specs.Forward.{costOf}
-use Rattle.forward.specs.Answers.{okPacket, lookupOf}
+use Rattle.packet.specs.Packet.{okPacket}
+use Rattle.forward.specs.Answers.{lookupOf}
 use Rattle.forward.specs.declared.Look.{Look}
 use Rattle.bridge.specs.Bridge.{graphOf, stateOf}
 use Rattle.promise.specs.Routes.{Network16, Route, Reached, Quiet}

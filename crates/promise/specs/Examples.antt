@@ -11,8 +11,8 @@ use Rattle.table.specs.Table.{Table, place, fresh}
 use Rattle.table.specs.Answers.{deliverAnswer, deliverTable}
 use Rattle.table.specs.Run.{runOf}
 use Rattle.table.specs.declared.Delivered.{Delivered}
-use Rattle.forward.specs.Forward.{Journey}
-use Rattle.forward.specs.Answers.{lookupOf, carryOf}
+use Rattle.carry.specs.Carry.{Journey, carryOf}
+use Rattle.forward.specs.Answers.{lookupOf}
 use Rattle.forward.specs.declared.Look.{Look}
 
 -- after the delivery from 3 to 2 about (3, a), and once no message waits

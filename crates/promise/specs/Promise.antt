@@ -12,7 +12,9 @@ use Rattle.table.specs.Table.{Table, noRow, noWay, ceiling, place}
 use Rattle.table.specs.Answers.{refusal, freshTable, firstAnswer, okMessage, waits, stepRefusal}
 use Rattle.table.specs.Run.{runOf}
 use Rattle.table.specs.declared.First.{First}
-use Rattle.forward.specs.Answers.{okPacket, lookupOf, carryOf, lookRefusal}
+use Rattle.packet.specs.Packet.{okPacket}
+use Rattle.forward.specs.Answers.{lookupOf, lookRefusal}
+use Rattle.carry.specs.Carry.{carryOf}
 use Rattle.forward.specs.declared.Look.{Look}
 use Rattle.promise.specs.Routes.{Network16, Route, Reached, Done, mostDeliveries, together, rounds, Arrives, Later, Quiet, Carried}
 

@@ -11,7 +11,7 @@ use Rattle.gateways.specs.Gateways.{can, weight, accepts}
 use Rattle.table.specs.Table.{Table, noRow, rowsEach, fresh}
 use Rattle.table.specs.Answers.{deliverRefusal, deliverTable}
 use Rattle.table.specs.Run.{runOf}
-use Rattle.forward.specs.Forward.{Journey}
+use Rattle.carry.specs.Carry.{Journey}
 use Rattle.forward.specs.Answers.{lookupOf}
 use Rattle.forward.specs.declared.Look.{Look}
 

@@ -2,7 +2,7 @@
 use denote.Ref.{now}
 use Rattle.network.specs.Network.{networkOf}
 use Rattle.table.specs.Table.{tableOf}
-use Rattle.forward.specs.Answers.{carryOf}
+use Rattle.carry.specs.Carry.{carryOf}
 use Rattle.packet_exports.specs.Four.{carryFour}
 use Rattle.packet_exports.proofs.Fours.{no-room, has-carried}
 use borrow.Author.Needs.{needs}

@@ -1,11 +1,11 @@
--- `forward::begin::begin` meets its contract: a law of proofs/Packets.antt for each return.
+-- `packet::begin` meets its contract: a law of proofs/Packets.antt for each return.
 use denote.Ref.{now}
 use borrow.Author.Needs.{needs}
 use Rattle.network.specs.Network.{Network, networkOf}
 use Rattle.table.specs.Table.{Table, tableOf}
-use Rattle.forward.proofs.Packets.{not-begun, no-node, no-destination, no-stack, good-packet}
-use Rattle.forward.proofs.begin.begin.Statement.{statement}
-use Rattle.forward.proofs.begin.begin.Tie as tie
+use Rattle.packet.proofs.Packets.{not-begun, no-node, no-destination, no-stack, good-packet}
+use Rattle.packet.proofs.begin.Statement.{statement}
+use Rattle.packet.proofs.begin.Tie as tie
 
 abbrev net : tie.Start → Network
 net s = let a = s .args in networkOf (a .n) (a .p) (a .h) (now (a .links)) (now (a .functions))

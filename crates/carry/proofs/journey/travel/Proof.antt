@@ -1,4 +1,4 @@
--- `forward::journey::travel` meets its contract: hop by hop, what is done and what is left are the journey from the start.
+-- `carry::journey::travel` meets its contract: hop by hop, what is done and what is left are the journey from the start.
 use Prim.Native.Nat.{ℕ, _+_, _-_}
 use mathlib.Core.Path.{_≡_, refl, sym, subst, _∙_}
 use mathlib.Core.Logic.{⊎-elim}
@@ -10,13 +10,13 @@ use native.Mathlib.Omega.{arith}
 use borrow.Author.Needs.{needs}
 use Rattle.network.specs.Network.{Network, networkOf}
 use Rattle.table.specs.Table.{tableOf}
 use Rattle.forward.specs.Forward.{lookAt}
 use Rattle.forward.specs.declared.Look.{Look}
 use Rattle.forward.proofs.Look.{the-type}
 use Rattle.forward.proofs.Tells.{forward-tells}
-use Rattle.forward.proofs.Travels.{Going, can-word, starts, stops-here, limit-here, goes-on}
-use Rattle.forward.proofs.journey.travel.Statement.{statement}
-use Rattle.forward.proofs.journey.travel.Tie as tie
+use Rattle.carry.proofs.Travels.{Going, starts, looks, stops-here, limit-here, goes-on}
+use Rattle.carry.proofs.journey.travel.Statement.{statement}
+use Rattle.carry.proofs.journey.travel.Tie as tie
 
 abbrev Inv-loop : tie.InvT-loop
 Inv-loop n p h stacks links functions cost way from destination first limit hops₀ spent₀ node₀ number₀ hops spent node number =
@@ -34,11 +34,21 @@ kept : (c : tie.At-loop Inv-loop μ-loop) → let a = c .before .before .before 
     Going (net (c .before .before .before .before .before)) (now (a .cost)) (now (a .way)) (a .destination) (a .limit) (a .from) (a .first) (c .loop .hops) (c .loop .spent) (c .loop .node) (c .loop .number)
 kept c = c .loop .inv
 
+-- what is looked up there
+found : (c : tie.After-look Inv-loop μ-loop) (waiting : List ℕ) → let a = c .before .before .before .before .before .before .args in
+    c .look .result ≡ lookAt (net (c .before .before .before .before .before .before)) (tableOf (now (a .cost)) (now (a .way)) waiting) (c .before .loop .node) (a .destination) (c .before .loop .number)
+found c =
+    let s = c .before .before .before .before .before .before in
+    let a = s .args in
+    let l = c .before .loop in
+    looks (net s) (now (a .cost)) (now (a .way)) (a .destination) (a .limit) (a .from) (a .first) (l .hops) (l .spent) (l .node) (l .number) (kept (c .before))
+    (a .stacks) (s .pre .0) (c .look .ensures)
+
 -- the lookup forwards
 forwarded : (c : tie.After-known-told Inv-loop μ-loop) (waiting : List ℕ) → let a = c .before .before .before .before .before .before .before .before .before .args in
     Look.Forward (c .before .found .given .0 .0) (c .before .found .given .0 .1 .0) (c .before .found .given .0 .1 .1 .0) (c .before .found .given .0 .1 .1 .1 .0)
     ≡ lookAt (net (c .before .before .before .before .before .before .before .before .before)) (tableOf (now (a .cost)) (now (a .way)) waiting) (c .before .before .before .before .loop .node) (a .destination) (c .before .before .before .before .loop .number)
-forwarded c waiting = sym (c .before .found .given .1) ∙ c .before .before .before .look .ensures waiting
+forwarded c waiting = sym (c .before .found .given .1) ∙ found (c .before .before .before) waiting
 
 -- and the hop is made
 next : (c : tie.After-hop-cost Inv-loop μ-loop) → let a = c .before .before .before .before .before .before .before .before .before .before .before .args in
@@ -60,19 +70,7 @@ loop-holds c =
     starts (net s) (now (a .cost)) (now (a .way)) (a .destination) (a .limit) (a .from) (a .first) (s .pre .0 .here) (s .pre .0 .numbered) (s .pre .0 .within)
 
 look-requires : tie.Need-look-requires Inv-loop μ-loop
-look-requires c κs =
-    let q = c .before .before .before .before .before .pre .0 in
-    let g = kept c in
-    record {
-      network = q .network;
-      stacks-are = q .stacks-are;
-      cost-long = q .cost-long;
-      way-long = q .way-long;
-      here = g .here;
-      there = q .there;
-      numbered = g .numbered;
-      within = g .most;
-    }
+look-requires c κs = search needs
 
 enum-known-found : tie.Need-enum-known-found Inv-loop μ-loop
 enum-known-found c = search needs
@@ -86,7 +84,7 @@ returns c =
     let a = s .args in
     let l = c .before .before .before .loop in
     stops-here (net s) (now (a .cost)) (now (a .way)) (a .destination) (a .limit) (a .from) (a .first) (l .hops) (l .spent) (l .node) (l .number) (kept (c .before .before .before))
-    (c .before .before .look .result) _ (c .before .before .look .ensures)
+    (c .before .before .look .result) _ (found (c .before .before))
     (λ W f M x e. ⊎-elim (λ (z : 1 ≡ 0). omega arith) (λ (z : 1 ≡ 2). omega arith) (subst (λ (k : Look). OneOf (0 ∷ 2 ∷ []) (tagOf the-type k)) e (c .before .match .keys2)))
     refl refl refl refl (c .refusal-of .ensures)
 
@@ -105,8 +103,7 @@ hop-cost-requires c κs =
     let a = s .args in
     let l = c .before .before .before .before .before .loop in
     let v = c .before .before .found .given .0 in
-    can-word (net s) (l .node) (v .1 .0)
-    (forward-tells (net s) (tableOf (now (a .cost)) (now (a .way)) []) (l .node) (a .destination) (l .number) (v .0) (v .1 .0) (v .1 .1 .0) (v .1 .1 .1 .0) (forwarded (c .before) []) .able)
+    forward-tells (net s) (tableOf (now (a .cost)) (now (a .way)) []) (l .node) (a .destination) (l .number) (v .0) (v .1 .0) (v .1 .1 .0) (v .1 .1 .1 .0) (forwarded (c .before) []) .able
 
 add-spent : tie.Need-add-spent Inv-loop μ-loop
 add-spent c = omega (arith, next c .few, next c .within, c .before .before .before .before .before .before .before .before .before .before .before .pre .1)

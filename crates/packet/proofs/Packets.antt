@@ -1,12 +1,12 @@
 -- What `begin` answers at each test, and what its answer tells lookup and carry.
 use Prim.Native.Nat.{ℕ, _≤_, _<_}
 use native.Mathlib.Omega.{arith}
-use mathlib.Core.Path.{_≡_, refl, sym, ap, _∙_, subst}
+use mathlib.Core.Path.{_≡_, refl, sym, ap, _∙_}
 use mathlib.Core.List.{List}
 use mathlib.Core.Bool.{Bool, true, false, cond, _&&_}
 use lib.ListN.{length}
-use lib.Dec.{ltb}
-use borrow.Author.Tests.{ltb-true, lt-ltb, le-ltb, le-leb, lt-leb}
+use lib.Dec.{ltb, eqb}
+use borrow.Author.Tests.{ltb-true, lt-ltb, le-ltb}
 use Rattle.lists.proofs.Tests.{both}
 use Rattle.stacks.specs.Stacks.{okSize, okStack, number}
 use Rattle.stacks.specs.Answers.{numberOf}
@@ -17,14 +17,10 @@ use Rattle.network.specs.Network.{Network}
 use Rattle.network.specs.declared.Checked.{Checked}
 use Rattle.network.proofs.Laws.{valid}
 use Rattle.table.specs.Table.{Table}
-use Rattle.table.specs.Answers.{readyOf}
+use Rattle.table.specs.Answers.{refusal, readyOf}
 use Rattle.table.proofs.Begins.{Ready, is-ready, is-refused, begun, stopped}
-use Rattle.forward.specs.Forward.{lookAt, Journey, stop, journey}
-use Rattle.forward.specs.Answers.{okPacket, lookupOf, carryOf, Carries}
-use Rattle.forward.specs.Steps.{packetFrom, packetOf, Placed}
-use Rattle.forward.specs.declared.Look.{Look}
-use Rattle.forward.specs.declared.Carried.{Carried}
-use Rattle.forward.specs.declared.begin.Packet.{Packet}
+use Rattle.packet.specs.Packet.{okPacket, packetFrom, packetOf, Placed}
+use Rattle.packet.specs.declared.Packet.{Packet}
 
 numbered-so : (ok : Bool) (x N : ℕ) → cond ok (Answer.Value x) (Answer.Refused 4) ≡ Answer.Value N → (ok ≡ true) × (N ≡ x)
 numbered-so true x N e = (refl, (cc))
@@ -88,7 +84,7 @@ module _ (net : Network) (t : Table) (U D : ℕ) (stack : List ℕ) where
       go (Checked.Refused r) u ok v d = absurd (let z : _≡_ {A = ℕ} 0 1 = cc in omega arith)
 
   -- the packet stands at one of the nodes, with a number that a stack has
-  pub placed : (s N : ℕ) → Begun net t U D stack s N → Placed net s (length (t .cost)) (length (t .way)) U D N
+  pub placed : (s N : ℕ) → Begun net t U D stack s N → Placed net s U D N
   unfolding okPacket
   placed s N b =
       let r = b .ready in
@@ -98,57 +94,30 @@ module _ (net : Network) (t : Table) (U D : ℕ) (stack : List ℕ) where
       record {
         network = r .network;
         stacks-are = r .stacks-are;
-        cost-long = r .cost-long;
-        way-long = r .way-long;
         here = ltb-true U (net .n) (u .0);
         there = ltb-true D (net .n) (d .0);
         numbered = omega (arith, b .number-is, w .some);
         within = omega (arith, b .number-is, w .most);
       }
 
-  -- lookup
-  pub looked : (s N : ℕ) → Begun net t U D stack s N → {l : Look} → l ≡ lookAt net t U D N → l ≡ lookupOf net t U D stack
-  looked s N b is =
-      is
-      ∙ ap (lookAt net t U D) (b .number-is)
-      ∙ sym (begun net t s (b .ready) _ _ ∙ ap (λ (ok : Bool). cond ok (lookAt net t U D (number (net .p) stack)) (Look.Refused 4)) (b .good))
+  -- a call that makes these tests first: one that nothing refuses, and one that is refused
+  module _ {A : Type 0} (good : A) (refused : ℕ → A) where
+    abbrev pub tested : A
+    tested = cond (eqb (refusal net t) 0) (cond (okPacket net U D stack) good (refused 4)) (refused (refusal net t))
 
-  -- carry
-  pub carried : (s N limit : ℕ) → Begun net t U D stack s N → limit ≤ 16384 → journey net t D limit U N ≡ carryOf net t U D stack limit
-  unfolding carryOf
-  carried s N limit b low =
-      ap (journey net t D limit U) (b .number-is)
-      ∙ sym (begun net t s (b .ready) _ _ ∙ simp (b .good, le-leb limit 16384 low))
+    pub goes-on : (s N : ℕ) → Begun net t U D stack s N → good ≡ tested
+    goes-on s N b = sym (begun net t s (b .ready) _ _ ∙ ap (λ (ok : Bool). cond ok good (refused 4)) (b .good))
 
-  pub too-far : (s N limit : ℕ) → Begun net t U D stack s N → 16384 < limit → stop 0 0 4 ≡ carryOf net t U D stack limit
-  unfolding carryOf
-  too-far s N limit b high = sym (begun net t s (b .ready) _ _ ∙ simp (b .good, lt-leb limit 16384 high))
-
-  -- refused before it begins
-  pub refused-both : (r : ℕ) {k : Packet} → k ≡ packetOf net t U D stack → k ≡ Packet.Refused r
-      → (Look.Refused r ≡ lookupOf net t U D stack) × ((limit : ℕ) → stop 0 0 r ≡ carryOf net t U D stack limit)
-  unfolding carryOf
-  refused-both r is e = go (readyOf net (length (t .cost)) (length (t .way)) (length (t .waiting))) refl (okPacket net U D stack) refl (sym is ∙ e)
-    where
-      go : (k : Checked) → readyOf net (length (t .cost)) (length (t .way)) (length (t .waiting)) ≡ k → (ok : Bool) → okPacket net U D stack ≡ ok
-          → packetFrom k ok (number (net .p) stack) ≡ Packet.Refused r
-          → (Look.Refused r ≡ lookupOf net t U D stack) × ((limit : ℕ) → stop 0 0 r ≡ carryOf net t U D stack limit)
-      go (Checked.Stacks m) u true v d = absurd (let z : _≡_ {A = ℕ} 0 1 = cc in omega arith)
-      go (Checked.Stacks m) u false v d =
-          let q : r ≡ 4 = cc in (
-            ap Look.Refused q ∙ sym (begun net t m (is-ready net t m u) _ _ ∙ simp v),
-            λ limit. ap (stop 0 0) q ∙ sym (begun net t m (is-ready net t m u) _ _ ∙ simp v),
-          )
-      go (Checked.Refused x) u ok v d =
-          let q : r ≡ x = cc in
-          let w = is-refused net t x u in (
-            ap Look.Refused (q ∙ sym (w .0)) ∙ sym (stopped net t x w _ _),
-            λ limit. ap (stop 0 0) (q ∙ sym (w .0)) ∙ sym (stopped net t x w _ _),
-          )
-
--- carry's answer is the same journey, and a refusal's is zeros
-pub same-journey : (j k : Journey) (a : Carried) → j ≡ k → Carries j a → Carries k a
-same-journey j k a e h = subst (λ (x : Journey). Carries x a) e h
-
-pub zeros : (r : ℕ) (k : Journey) → stop 0 0 r ≡ k → Carries k (record { hops = 0; spent = 0; node = 0; number = 0; refused = r })
-zeros r k e = same-journey (stop 0 0 r) k _ e (record { hops = refl; spent = refl; node = refl; number = refl; refused = refl })
+    pub is-over : (r : ℕ) {k : Packet} → k ≡ packetOf net t U D stack → k ≡ Packet.Refused r → refused r ≡ tested
+    is-over r is e = go (readyOf net (length (t .cost)) (length (t .way)) (length (t .waiting))) refl (okPacket net U D stack) refl (sym is ∙ e)
+      where
+        go : (k : Checked) → readyOf net (length (t .cost)) (length (t .way)) (length (t .waiting)) ≡ k → (ok : Bool) → okPacket net U D stack ≡ ok
+            → packetFrom k ok (number (net .p) stack) ≡ Packet.Refused r → refused r ≡ tested
+        go (Checked.Stacks m) u true v d = absurd (let z : _≡_ {A = ℕ} 0 1 = cc in omega arith)
+        go (Checked.Stacks m) u false v d =
+            let q : r ≡ 4 = cc in
+            ap refused q ∙ sym (begun net t m (is-ready net t m u) _ _ ∙ ap (λ (ok : Bool). cond ok good (refused 4)) v)
+        go (Checked.Refused x) u ok v d =
+            let q : r ≡ x = cc in
+            let w = is-refused net t x u in
+            ap refused (q ∙ sym (w .0)) ∙ sym (stopped net t x w _ _)

@@ -3,26 +3,17 @@ use Prim.Native.Nat.{ℕ, zero, suc, _+_, _-_, _*_, _<_, _≤_}
 use native.Mathlib.Omega.{arith}
 use mathlib.Core.Path.{_≡_, refl, sym, ap, _∙_}
 use mathlib.Core.List.{List}
-use mathlib.Core.Bool.{true}
-use borrow.Author.Tests.{ltb-true}
 use Rattle.network.specs.Network.{Network, stacks}
-use Rattle.gateways.specs.Gateways.{word, can, price, weight}
+use Rattle.gateways.specs.Gateways.{weight}
 use Rattle.table.specs.Table.{Table, tableOf}
-use Rattle.forward.specs.Forward.{lookAt, Journey, stop, after, onward, journey}
-use Rattle.forward.specs.Answers.{lookRefusal, Carries}
-use Rattle.forward.specs.Steps.{wordAs, hopCost}
+use Rattle.packet.specs.Packet.{Placed}
+use Rattle.forward.specs.Forward.{lookAt}
+use Rattle.forward.specs.Answers.{lookOf, lookRefusal}
 use Rattle.forward.specs.declared.Look.{Look}
-use Rattle.forward.specs.declared.Carried.{Carried}
+use Rattle.forward.proofs.Looks.{look-is}
 use Rattle.forward.proofs.Tells.{forward-tells}
-
--- hop_cost: its contract without h is the weight of the specification
-weight-is : (net : Network) (U f W : ℕ) → hopCost (net .n) (net .p) (net .links) (net .functions) U f W ≡ weight net U f W
-unfolding weight price
-weight-is net U f W = refl
-
-pub can-word : (net : Network) (U f : ℕ) → can net U f ≡ true → 0 < wordAs (net .n) (net .p) (net .functions) U f
-unfolding can
-can-word net U f e = ltb-true 0 (word net U f) e
+use Rattle.carry.specs.Carry.{Journey, stop, after, onward, journey, Carries}
+use Rattle.carry.specs.declared.Carried.{Carried}
 
 -- two journeys are equal by their parts
 journey-of : (a b : Journey) → a .hops ≡ b .hops → a .spent ≡ b .spent → a .node ≡ b .node → a .number ≡ b .number → a .refused ≡ b .refused → a ≡ b
@@ -91,6 +82,13 @@ module _ (net : Network) (cost way : List ℕ) (D limit U₀ N₀ : ℕ) where
   }
 
   module _ (hops spent U N : ℕ) (g : Going net cost way D limit U₀ N₀ hops spent U N) where
+    -- the packet stands at a node again, so what `look` answers is the lookup there
+    pub looks : (s : ℕ) → Placed net s U₀ D N₀ → {l : Look} → l ≡ lookOf net s cost way U D N → (waiting : List ℕ) → l ≡ lookAt net (tableOf cost way waiting) U D N
+    looks s q is waiting =
+        is
+        ∙ look-is net (tableOf cost way waiting) s U D N
+        (record { network = q .network; stacks-are = q .stacks-are; here = g .here; there = q .there; numbered = g .numbered; within = g .most })
+
     -- the lookup does not forward
     pub stops-here : (l : Look) (a : Carried) → ((waiting : List ℕ) → l ≡ lookAt net (tableOf cost way waiting) U D N) → Stops l
         → a .hops ≡ hops → a .spent ≡ spent → a .node ≡ U → a .number ≡ N → a .refused ≡ lookRefusal l
@@ -109,9 +107,8 @@ module _ (net : Network) (cost way : List ℕ) (D limit U₀ N₀ : ℕ) where
           (g .whole waiting ∙ ap (further hops spent) (ap (λ (k : ℕ). journey net (tableOf cost way waiting) D k U N) none ∙ may-not net (tableOf cost way waiting) D U N W f M c (e waiting))) h s u n r
 
       -- it does, and the hop is made
-      pub goes-on : (x : ℕ) → hops < limit → x ≡ hopCost (net .n) (net .p) (net .links) (net .functions) U f W → x ≤ 131069 → Going net cost way D limit U₀ N₀ (hops + 1) (spent + x) W M
-      goes-on x low cost-is few =
-          let price-is : x ≡ weight net U f W = cost-is ∙ weight-is net U f W in
+      pub goes-on : (x : ℕ) → hops < limit → x ≡ weight net U f W → x ≤ 131069 → Going net cost way D limit U₀ N₀ (hops + 1) (spent + x) W M
+      goes-on x low price-is few =
           let tells = forward-tells net (tableOf cost way way) U D N W f M c (e way) in
           record {
             within = omega arith;

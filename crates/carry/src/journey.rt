@@ -1,17 +1,17 @@
-// The hops of a packet, in a network and a table that `begin` found right.
+// The hops of a packet, in a network and a table that `packet::begin` found right. (No code reads h: the contracts speak of the network, of which it is a part.)
 ghost use mathlib.Core.Path.{_≡_};
 ghost use mathlib.Core.List.{List};
-ghost use Prim.Native.Nat.{ℕ, _≤_, _<_};
-ghost use lib.ListN.{length};
+ghost use Prim.Native.Nat.{ℕ, _≤_};
+ghost use mathlib.Core.Bool.{true};
 ghost use Rattle.network.specs.Network.{networkOf};
+ghost use Rattle.gateways.specs.Gateways.{can, weight};
 ghost use Rattle.table.specs.Table.{tableOf};
-ghost use Rattle.forward.specs.Forward.{journey};
-ghost use Rattle.forward.specs.Answers.{Carries, lookRefusal};
-ghost use Rattle.forward.specs.Steps.{Placed, wordAs, hopCost};
+ghost use Rattle.packet.specs.Packet.{Placed};
+ghost use Rattle.forward.specs.Answers.{lookRefusal};
+ghost use Rattle.carry.specs.Carry.{journey, Carries};
 use crate::Carried;
-use crate::Look;
-use crate::row::function_word;
-use crate::row::look;
+use forward::Look;
+use forward::row::look;
 
 // The number that a lookup's answer is refused with; 0 where it is not.
 fn refusal_of(found: Look) -> u32
@@ -28,17 +28,26 @@ fn refusal_of(found: Look) -> u32
 fn hop_cost(
     n: usize,
     p: usize,
+    h: usize,
     links: &[u16],
     functions: &[u16],
     node: usize,
     function: usize,
     next: usize,
 ) -> u64
-    requires { ⌜ 0 < wordAs n p (now functions) node function ⌝ }
-    ensures { λ r. ⌜ (r ≡ hopCost n p (now (links .entry)) (now (functions .entry)) node function next) × (r ≤ 131069) ⌝ }
+    requires { ⌜ can (networkOf n p h (now links) (now functions)) node function ≡ true ⌝ }
+    ensures { λ r. ⌜ (r ≡ weight (networkOf n p h (now (links .entry)) (now (functions .entry))) node function next) × (r ≤ 131069) ⌝ }
 {
     let link = network::link_cost(n, links, node, next);
-    let word = function_word(n, p, functions, node, function);
+    let word = gateways::word_at(
+        n,
+        p,
+        functions,
+        node,
+        function / 64,
+        function / 8 % 8,
+        function % 8,
+    );
     link as u64 + (word - 1) as u64
 }
 
@@ -57,7 +66,7 @@ pub(crate) fn travel(
     first: usize,
     limit: u64,
 ) -> Carried
-    requires { ⌜ Placed (networkOf n p h (now links) (now functions)) stacks (length (now cost)) (length (now way)) from destination first ⌝ }
+    requires { ⌜ Placed (networkOf n p h (now links) (now functions)) stacks from destination first ⌝ }
     requires { ⌜ limit ≤ 16384 ⌝ }
     ensures { λ r.
         ⌜
@@ -102,7 +111,7 @@ pub(crate) fn travel(
                 refused: 8,
             };
         }
-        spent += hop_cost(n, p, links, functions, node, function, next);
+        spent += hop_cost(n, p, h, links, functions, node, function, next);
         hops += 1;
         node = next;
         number = result;

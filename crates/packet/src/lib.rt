@@ -1,19 +1,19 @@
-// What lookup and carry test first: the network, the table's lengths, the two nodes and the stack.
+// What lookup and carry test first: the network, the table's lengths, the two nodes and the stack. Total: the contract is an equation of specs/Packet.antt.
 ghost use mathlib.Core.Path.{_≡_};
 ghost use Rattle.network.specs.Network.{networkOf};
 ghost use Rattle.table.specs.Table.{tableOf};
-ghost use Rattle.forward.specs.Steps.{packetOf};
+ghost use Rattle.packet.specs.Packet.{packetOf};
 use network::Checked;
 use stacks::Answer;
 
 // How many stacks there are and the number of the packet's, or the refusal's number.
-pub(crate) enum Packet {
+pub enum Packet {
     Number(usize, usize),
     Refused(u32),
 }
 
 // Refusals 1 to 4, but for the limit of carry.
-pub(crate) fn begin(
+pub fn begin(
     n: usize,
     p: usize,
     h: usize,

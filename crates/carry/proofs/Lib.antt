@@ -1,0 +1,3 @@
+-- What the proofs of crate carry rest on.
+pub mod Travels
+pub mod Carries

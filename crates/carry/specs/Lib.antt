@@ -1,0 +1,2 @@
+-- The definitions of crate carry.
+pub mod Carry

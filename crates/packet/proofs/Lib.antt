@@ -1,0 +1,2 @@
+-- The laws of crate packet.
+pub mod Packets

@@ -1,0 +1,2 @@
+-- The definitions of crate packet.
+pub mod Packet
