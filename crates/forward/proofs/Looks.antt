@@ -8,7 +8,7 @@ use mathlib.Core.Logic.{⊎-elim}
 use mathlib.Core.List.{List, [], _∷_}
 use types.Run.{OneOf}
 use denote.Enum.Declared.{tagOf}
-use lib.ListN.{getD}
+use lib.ListN.{length, getD, List·getD-eq-default}
 use lib.Dec.{leb, ltb, eqb}
 use borrow.Author.Tests.{lt-ltb, le-leb, lt-leb, eq-eqb, ne-eqb, ltb-true, leb-true, not-true, not-false}
 use Rattle.lists.proofs.Tests.{both}
@@ -25,8 +25,8 @@ use Rattle.table.specs.Table.{Table, noRow, ceiling, placeIn, home}
 use Rattle.packet.specs.Packet.{packetOf, Placed}
 use Rattle.packet.specs.declared.Packet.{Packet}
 use Rattle.packet.proofs.Packets.{is-begun, placed, goes-on}
-use Rattle.forward.specs.Forward.{okWay, answer, okRow, lookAt}
-use Rattle.forward.specs.Answers.{okPlace, costIn, wayIn, resultIn, lookOf, lookupOf}
+use Rattle.forward.specs.Forward.{okWay, answer, costOf, wayOf, functionOf, okRow, lookAt}
+use Rattle.forward.specs.Answers.{okPlace, rowAnswer, lookOf, lookupOf}
 use Rattle.forward.specs.declared.Look.{Look}
 
 -- the row's place is worked out without wrapping
@@ -106,38 +106,38 @@ pub record Costed (c : ℕ) : Type 0 where
 
 module _ (net : Network) (U c w M : ℕ) where
   -- what a row answers where the packet is not delivered
-  abbrev pub rowAnswer : Look
-  rowAnswer = answer false (okWay net U c w M) c w M
+  abbrev pub byRow : Look
+  byRow = answer false (okWay net U c w M) c w M
 
-  pub no-row : c ≡ noRow → Look.Refused 6 ≡ rowAnswer
+  pub no-row : c ≡ noRow → Look.Refused 6 ≡ byRow
   no-row e = simp (eq-eqb c noRow e)
 
-  broken : (c ≡ noRow → ⊥) → okWay net U c w M ≡ false → Look.Refused 7 ≡ rowAnswer
+  broken : (c ≡ noRow → ⊥) → okWay net U c w M ≡ false → Look.Refused 7 ≡ byRow
   broken row e = simp (ne-eqb c noRow row, e)
 
-  pub too-cheap : c ≡ 0 → Look.Refused 7 ≡ rowAnswer
+  pub too-cheap : c ≡ 0 → Look.Refused 7 ≡ byRow
   too-cheap e = broken (λ (z : c ≡ noRow). omega arith) (simp (lt-leb 1 c (omega arith)))
 
-  pub too-dear : (c ≡ noRow → ⊥) → (c ≡ 0 → ⊥) → ceiling < c → Look.Refused 7 ≡ rowAnswer
+  pub too-dear : (c ≡ noRow → ⊥) → (c ≡ 0 → ⊥) → ceiling < c → Look.Refused 7 ≡ byRow
   too-dear row some high = broken row (simp (le-leb 1 c (omega arith), lt-leb c ceiling high))
 
   module _ (q : Costed c) {x : ℕ} (is-x : x ≡ link net U (w / 256)) where
-    pub no-link : x ≡ 0 → Look.Refused 7 ≡ rowAnswer
+    pub no-link : x ≡ 0 → Look.Refused 7 ≡ byRow
     unfolding present
     no-link e = broken (q .row) (simp (le-leb 1 c (omega arith), le-leb c ceiling (q .low), sym is-x ∙ e))
 
     module _ (linked : x ≡ 0 → ⊥) {y : ℕ} (is-y : y ≡ word net U (w % 256)) where
-      pub no-function : y ≡ 0 → Look.Refused 7 ≡ rowAnswer
+      pub no-function : y ≡ 0 → Look.Refused 7 ≡ byRow
       unfolding present can
       no-function e = broken (q .row) (simp (le-leb 1 c (omega arith), le-leb c ceiling (q .low), lt-ltb 0 (link net U (w / 256)) (omega arith), sym is-y ∙ e))
 
       module _ (able : y ≡ 0 → ⊥) where
-        none-made : M ≡ 0 → Look.Refused 7 ≡ rowAnswer
+        none-made : M ≡ 0 → Look.Refused 7 ≡ byRow
         unfolding present can
         none-made e =
             broken (q .row) (simp (le-leb 1 c (omega arith), le-leb c ceiling (q .low), lt-ltb 0 (link net U (w / 256)) (omega arith), lt-ltb 0 (word net U (w % 256)) (omega arith), e))
 
-        made : 1 ≤ M → Look.Forward (w / 256) (w % 256) M c ≡ rowAnswer
+        made : 1 ≤ M → Look.Forward (w / 256) (w % 256) M c ≡ byRow
         unfolding present can
         made some =
             simp (ne-eqb c noRow (q .row), le-leb 1 c (omega arith), le-leb c ceiling (q .low), lt-ltb 0 (link net U (w / 256)) (omega arith), lt-ltb 0 (word net U (w % 256)) (omega arith), lt-ltb 0 M some)
@@ -145,14 +145,14 @@ module _ (net : Network) (U c w M : ℕ) where
 -- and with what `moved` answers
 module _ (net : Network) (s U N c w : ℕ) (q : Costed c) {x : ℕ} (is-x : x ≡ link net U (w / 256)) (linked : x ≡ 0 → ⊥) {y : ℕ} (is-y : y ≡ word net U (w % 256))
     (able : y ≡ 0 → ⊥) {a : After} (is : a ≡ movedOf (net .p) s (w % 256) N) where
-  pub no-result : OneOf (1 ∷ 2 ∷ []) (tagOf the-type a) → Look.Refused 7 ≡ rowAnswer net U c w (numberAfter (movedOf (net .p) s (w % 256) N))
+  pub no-result : OneOf (1 ∷ 2 ∷ []) (tagOf the-type a) → Look.Refused 7 ≡ rowAnswer net s false U N c w
   no-result told = none-made net U c w _ q is-x linked is-y able (ap numberAfter (sym is) ∙ no-number a told)
 
-  pub forwards : (m : ℕ) → a ≡ After.Number m → Look.Forward (w / 256) (w % 256) m c ≡ rowAnswer net U c w (numberAfter (movedOf (net .p) s (w % 256) N))
+  pub forwards : (m : ℕ) → a ≡ After.Number m → Look.Forward (w / 256) (w % 256) m c ≡ rowAnswer net s false U N c w
   forwards m e =
       let to : movedOf (net .p) s (w % 256) N ≡ After.Number m = sym is ∙ e in
       made net U c w m q is-x linked is-y able (some-number (net .p) s (w % 256) N m to)
-      ∙ ap (rowAnswer net U c w) (sym (ap numberAfter to))
+      ∙ ap (byRow net U c w) (sym (ap numberAfter to))
 
 -- ---- lookOf
 module _ (net : Network) (s : ℕ) (cost way : List ℕ) (U D N : ℕ) where
@@ -162,9 +162,21 @@ module _ (net : Network) (s : ℕ) (cost way : List ℕ) (U D N : ℕ) where
   pub delivered-here : okPlace (net .n) s U D N ≡ true → {b : Bool} → b ≡ home net U D N → b ≡ true → Look.Delivered ≡ lookOf net s cost way U D N
   delivered-here ok is e = simp (ok, sym is ∙ e)
 
-  pub row-read : okPlace (net .n) s U D N ≡ true → {b : Bool} → b ≡ home net U D N → b ≡ false
-      → {l : Look} → l ≡ rowAnswer net U (costIn net s cost way U D N) (wayIn net s cost way U D N) (resultIn net s cost way U D N) → l ≡ lookOf net s cost way U D N
+  row-read : okPlace (net .n) s U D N ≡ true → {b : Bool} → b ≡ home net U D N → b ≡ false
+      → {l : Look} → l ≡ rowAnswer net s false U N (getD cost (placeIn (net .n) s U D N) 0) (getD way (placeIn (net .n) s U D N) 0) → l ≡ lookOf net s cost way U D N
   row-read ok at-home away is = simp (ok, sym at-home ∙ away) is
+
+  -- a row past the end is read as cost 0
+  pub row-past : okPlace (net .n) s U D N ≡ true → {b : Bool} → b ≡ home net U D N → b ≡ false → length cost ≤ placeIn (net .n) s U D N → Look.Refused 7 ≡ lookOf net s cost way U D N
+  row-past ok at-home away past =
+      let w = getD way (placeIn (net .n) s U D N) 0 in
+      row-read ok at-home away (too-cheap net U (getD cost (placeIn (net .n) s U D N) 0) w (numberAfter (movedOf (net .p) s (w % 256) N)) (List·getD-eq-default cost 0 past))
+
+  -- with the way as it was read
+  pub row-answered : okPlace (net .n) s U D N ≡ true → {b : Bool} → b ≡ home net U D N → b ≡ false → {w : ℕ} → w ≡ getD way (placeIn (net .n) s U D N) 0
+      → {l : Look} → l ≡ rowAnswer net s false U N (getD cost (placeIn (net .n) s U D N) 0) w → l ≡ lookOf net s cost way U D N
+  row-answered ok at-home away read is =
+      row-read ok at-home away (is ∙ ap (rowAnswer net s false U N (getD cost (placeIn (net .n) s U D N) 0)) read)
 
 -- ---- THE LAW: with the number of stacks at hand it is lookAt
 module _ (net : Network) (t : Table) where
@@ -176,9 +188,8 @@ module _ (net : Network) (t : Table) where
       let few : stacks net ≤ 16384 = omega (arith, v .room) in
       let at-S : lookOf net (stacks net) (t .cost) (t .way) U D N ≡ lookAt net t U D N =
       simp (le-leb (net .n) 32 (v .few), le-leb (stacks net) 16384 few, lt-ltb U (net .n) (q .here), lt-ltb D (net .n) (q .there), le-leb 1 N (q .numbered), le-leb N (stacks net) (q .within))
-      (ap (λ (M : ℕ). answer (home net U D N) (okWay net U (costIn net (stacks net) (t .cost) (t .way) U D N) (wayIn net (stacks net) (t .cost) (t .way) U D N) M)
-      (costIn net (stacks net) (t .cost) (t .way) U D N) (wayIn net (stacks net) (t .cost) (t .way) U D N) M)
-      (ap numberAfter (moved-applied (net .p) (net .h) (v .size) (wayIn net (stacks net) (t .cost) (t .way) U D N % 256) N))) in
+      (ap (λ (M : ℕ). answer (home net U D N) (okWay net U (costOf net t U D N) (wayOf net t U D N) M) (costOf net t U D N) (wayOf net t U D N) M)
+      (ap numberAfter (moved-applied (net .p) (net .h) (v .size) (functionOf net t U D N) N))) in
       ap (λ (k : ℕ). lookOf net k (t .cost) (t .way) U D N) (q .stacks-are) ∙ at-S
 
   -- lookup, once `begin` has told the number of stacks and the packet's

@@ -13,6 +13,7 @@ use Rattle.packet.specs.Packet.{okPacket}
 use Rattle.forward.specs.Forward.{okWay, answer, lookAt}
 use Rattle.forward.specs.declared.Look.{Look}
 
+-- lookup: refusals 1 to 4, and then the lookup
 abbrev pub lookupOf : Network → Table → ℕ → ℕ → List ℕ → Look
 lookupOf net t U D stack =
     cond (eqb (refusal net t) 0) (cond (okPacket net U D stack) (lookAt net t U D (number (net .p) stack)) (Look.Refused 4)) (Look.Refused (refusal net t))
@@ -21,19 +22,15 @@ lookupOf net t U D stack =
 unfoldable pub okPlace : ℕ → ℕ → ℕ → ℕ → ℕ → Bool
 okPlace n s U D N = leb n 32 && (leb s 16384 && (ltb U n && (ltb D n && (leb 1 N && leb N s))))
 
+-- what U's row with cost c and way w answers, where there are s stacks: its function makes what `moved` makes of stack number N
+abbrev pub rowAnswer : Network → ℕ → Bool → ℕ → ℕ → ℕ → ℕ → Look
+rowAnswer net s delivered U N c w = let M = numberAfter (movedOf (net .p) s (w % 256) N) in answer delivered (okWay net U c w M) c w M
+
 -- look: for whoever has worked out how many stacks there are: where s is S it answers what lookup does once its tests are made (the law look-is)
-module _ (net : Network) (s : ℕ) (cost way : List ℕ) (U D N : ℕ) where
-  abbrev pub costIn : ℕ
-  costIn = getD cost (placeIn (net .n) s U D N) 0
-
-  abbrev pub wayIn : ℕ
-  wayIn = getD way (placeIn (net .n) s U D N) 0
-
-  abbrev pub resultIn : ℕ
-  resultIn = numberAfter (movedOf (net .p) s (wayIn % 256) N)
-
-  abbrev pub lookOf : Look
-  lookOf = cond (okPlace (net .n) s U D N) (answer (home net U D N) (okWay net U costIn wayIn resultIn) costIn wayIn resultIn) (Look.Refused 4)
+abbrev pub lookOf : Network → ℕ → List ℕ → List ℕ → ℕ → ℕ → ℕ → Look
+lookOf net s cost way U D N =
+    let at = placeIn (net .n) s U D N in
+    cond (okPlace (net .n) s U D N) (rowAnswer net s (home net U D N) U N (getD cost at 0) (getD way at 0)) (Look.Refused 4)
 
 -- "A refusal returns its number and zeros": the refusal number of a lookup's answer, 0 where nothing is refused, and the values that go with it.
 abbrev pub lookRefusal : Look → ℕ

@@ -1,10 +1,11 @@
 // One lookup, of the stack of a number.
 ghost use mathlib.Core.Path.{_≡_};
+ghost use mathlib.Core.Bool.{false};
 ghost use mathlib.Core.List.{List};
 ghost use Prim.Native.Nat.{ℕ, _≤_};
 ghost use Rattle.network.specs.Network.{networkOf};
 ghost use Rattle.table.specs.Table.{home};
-ghost use Rattle.forward.specs.Answers.{okPlace, lookOf};
+ghost use Rattle.forward.specs.Answers.{okPlace, rowAnswer, lookOf};
 use crate::Look;
 use functions::After;
 
@@ -51,9 +52,56 @@ fn is_home(
     gateways::accepts(n, p, functions, destination, number - 1)
 }
 
+// What a row answers where the packet is not delivered: its cost is tested, then what its way names.
+// (No code here and in `look` reads h: the contracts speak of the network, of which it is a part.)
+fn row_answer(
+    n: usize,
+    p: usize,
+    h: usize,
+    stacks: usize,
+    links: &[u16],
+    functions: &[u16],
+    node: usize,
+    number: usize,
+    paid: u32,
+    named: usize,
+) -> Look
+    ensures { λ r. ⌜ r ≡ rowAnswer (networkOf n p h (now (links .entry)) (now (functions .entry))) stacks false node number paid named ⌝ }
+{
+    if paid == 4294967295 {
+        return Look::Refused(6);
+    }
+    if paid == 0 {
+        return Look::Refused(7);
+    }
+    if 2147303427 < paid {
+        return Look::Refused(7);
+    }
+    let next = named / 256;
+    let function = named % 256;
+    if network::link_cost(n, links, node, next) == 0 {
+        return Look::Refused(7);
+    }
+    let word = gateways::word_at(
+        n,
+        p,
+        functions,
+        node,
+        function / 64,
+        function / 8 % 8,
+        function % 8,
+    );
+    if word == 0 {
+        return Look::Refused(7);
+    }
+    match functions::moved(p, stacks, function, number) {
+        After::Number(result) => Look::Forward(next, function, result, paid),
+        _ => Look::Refused(7),
+    }
+}
+
 // As lookup, of the stack of a number, for a caller that has tested the network and the table and worked out how many stacks there are.
-// Being delivered is tested before the row is read; then the row's cost and way are.
-// (No code reads h: the contract speaks of the network, of which it is a part.)
+// Being delivered is tested before the row is read.
 pub fn look(
     n: usize,
     p: usize,
@@ -83,36 +131,6 @@ pub fn look(
         return Look::Refused(7);
     }
     let paid = cost[at];
-    if paid == 4294967295 {
-        return Look::Refused(6);
-    }
-    if paid == 0 {
-        return Look::Refused(7);
-    }
-    if 2147303427 < paid {
-        return Look::Refused(7);
-    }
     let named = network::entry(way, at) as usize;
-    let next = named / 256;
-    let function = named % 256;
-    if network::link_cost(n, links, node, next) == 0 {
-        return Look::Refused(7);
-    }
-    if gateways::word_at(
-        n,
-        p,
-        functions,
-        node,
-        function / 64,
-        function / 8 % 8,
-        function % 8,
-    )
-        == 0
-    {
-        return Look::Refused(7);
-    }
-    match functions::moved(p, stacks, function, number) {
-        After::Number(result) => Look::Forward(next, function, result, paid),
-        _ => Look::Refused(7),
-    }
+    row_answer(n, p, h, stacks, links, functions, node, number, paid, named)
 }
