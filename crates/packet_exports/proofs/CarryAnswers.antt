@@ -11,9 +11,11 @@ use Rattle.stacks.specs.Stacks.{number}
 use Rattle.network.specs.Network.{Network}
 use Rattle.table.specs.Table.{Table, noRow, home}
 use Rattle.table.specs.Answers.{refusal}
-use Rattle.forward.specs.Forward.{costOf, nextOf, functionOf, resultOf, okRow, lookAt, Journey, stop, onward, journey}
-use Rattle.forward.specs.Answers.{okPacket, lookRefusal, carryOf}
+use Rattle.packet.specs.Packet.{okPacket}
+use Rattle.forward.specs.Forward.{costOf, nextOf, functionOf, resultOf, okRow, lookAt}
+use Rattle.forward.specs.Answers.{lookRefusal}
 use Rattle.forward.specs.declared.Look.{Look}
+use Rattle.carry.specs.Carry.{Journey, stop, onward, journey, carryOf}
 use Rattle.packing.proofs.Refusals.{refusal-few}
 use Rattle.packing.proofs.Unpacked.{end-back}
 use Rattle.packet_exports.specs.Four.{fourPacked, fourNumbers, carryFour, unpackCarry}
