@@ -51,6 +51,7 @@ abbrev pub refusedBy : ℕ → ℕ → ℕ → ℕ → ℕ → ℕ → ℕ → �
 refusedBy p most sender destination number cost costs ways waiting =
     unless (okHearing p most sender destination number costs ways waiting) 4 (unless (leb cost ceiling) 7 0)
 
+-- the same of the gateway, the message and its rows
 unfoldable pub refusalOf : Gateway → Message → Rows → ℕ
 refusalOf g m r =
     refusedBy (g .p) (g .most) (m .sender) (m .destination) (m .number) (m .cost) (length (r .costs)) (length (r .ways)) (length (r .waiting))
