@@ -1,5 +1,4 @@
 // How far a packet is carried. The call takes any input; its contract is an equation of specs/Carry.antt.
-ghost use mathlib.Core.Path.{_≡_};
 ghost use Rattle.network.specs.Network.{networkOf};
 ghost use Rattle.table.specs.Table.{tableOf};
 ghost use Rattle.carry.specs.Carry.{Carries, carryOf};

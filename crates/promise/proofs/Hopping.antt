@@ -10,7 +10,8 @@ use mathlib.Core.Bool.{true, false, _&&_}
 use lib.Dec.{leb}
 use borrow.Author.Tests.{eq-eqb, ne-eqb, leb-true, le-leb, lt-leb}
 use Rattle.lists.proofs.Tests.{bool-cases, both}
-use Rattle.relax.specs.Journeys.{sum, bit}
+use Rattle.lists.specs.Lists.{one}
+use Rattle.relax.specs.Journeys.{sum}
 use Rattle.relax.proofs.Sum.{sum-lt, sum-most, bit-one, bit-le, bit-lt}
 use Rattle.stacks.specs.Stacks.{number}
 use Rattle.network.specs.Network.{Network}
@@ -32,7 +33,7 @@ use Rattle.promise.proofs.Looking.{packet, numbered}
 -- ---- how many rows for the destination D cost at most c
 module _ (net : Network) (t : Table) (D : ℕ) where
   pub rank : ℕ → ℕ
-  rank c = sum (rowsEach net) (λ v. bit (leb (bridged.costOf net D t v) c))
+  rank c = sum (rowsEach net) (λ v. one (leb (bridged.costOf net D t v) c))
 
   pub rank-most : (c : ℕ) → rank c ≤ rowsEach net
   unfolding rank
