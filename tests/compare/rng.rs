@@ -30,6 +30,7 @@ impl Rng {
     }
 
     // a row's cost as a broken table may hold it, often at the ceiling or at "no row"
+    #[allow(dead_code)] // the benchmarks draw none
     pub fn cost(&mut self, ceiling: u32) -> u32 {
         let some = self.word() as u32;
         match self.below(8) {
