@@ -4,9 +4,9 @@ use mathlib.Core.Bool.{Bool, cond, _&&_}
 use lib.ListN.{getD}
 use lib.Dec.{leb, ltb, eqb}
 use Rattle.functions.specs.Answers.{appliedOf, numberAfter}
-use Rattle.network.specs.Network.{Network, present}
+use Rattle.network.specs.Network.{Network, stacks, present}
 use Rattle.gateways.specs.Gateways.{can}
-use Rattle.table.specs.Table.{Table, noRow, ceiling, place, home}
+use Rattle.table.specs.Table.{Table, noRow, ceiling, costIn, place, home}
 use Rattle.forward.specs.declared.Look.{Look}
 
 -- Refusal 7 is given but where this holds of U's row, with cost c and way w, whose function makes stack number M: "cost 0 or above the ceiling,
@@ -25,7 +25,7 @@ answer delivered ok c w M =
 module _ (net : Network) (t : Table) where
   -- the row of node U, destination D and stack number N
   abbrev pub costOf : ℕ → ℕ → ℕ → ℕ
-  costOf U D N = getD (t .cost) (place net U D N) 0
+  costOf U D N = costIn (net .n) (stacks net) t U D N
 
   abbrev pub wayOf : ℕ → ℕ → ℕ → ℕ
   wayOf U D N = getD (t .way) (place net U D N) 0

@@ -11,6 +11,7 @@ use Rattle.relax.specs.Graph as graph
 use Rattle.network.specs.Network.{Network, stacks, link, neighbours}
 use Rattle.gateways.specs.Gateways.{word, receivesAt}
 use Rattle.bits.specs.Bits.{without}
+use Rattle.hear.specs.Answers as hearing
 use Rattle.hear.specs.Hearing.{Gateway, Message, Rows, heard, taken}
 
 -- "Three lent slices, each n x n x S long."
@@ -30,7 +31,7 @@ abbrev pub noWay : ℕ
 noWay = 65535
 
 abbrev pub ceiling : ℕ
-ceiling = 2147303427
+ceiling = hearing.ceiling
 
 -- "The row for node U, destination D, stack number N is at (U x n + D) x S + N - 1."
 abbrev pub placeIn : ℕ → ℕ → ℕ → ℕ → ℕ → ℕ
