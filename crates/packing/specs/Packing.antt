@@ -11,15 +11,15 @@ packRefused refusal = 2 ^ 63 + refusal
 abbrev pub packEnd : ℕ → ℕ
 packEnd refusal = cond (eqb refusal 0) 0 (packRefused refusal)
 
--- ---- the parts read back: IS_REFUSED, REFUSAL where that says so, IS_FOUND, FIRST_SENDER or NEXT_NODE, FIRST_RECEIVER or FUNCTION, FIRST_DESTINATION,
--- FIRST_NUMBER or COST, and NUMBER
+-- ---- the parts read back: IS_REFUSED, the low bits of a refusal, REFUSAL, IS_FOUND, FIRST_SENDER or NEXT_NODE, FIRST_RECEIVER or FUNCTION,
+-- FIRST_DESTINATION, FIRST_NUMBER or COST, and NUMBER
 abbrev pub isRefused : ℕ → ℕ
 isRefused x = x / 2 ^ 63
 
 abbrev pub refusalIn : ℕ → ℕ
 refusalIn x = x % 256
 
--- how a call ended: 0 where nothing is refused
+-- 0 where nothing is refused
 abbrev pub endIn : ℕ → ℕ
 endIn x = cond (eqb (isRefused x) 0) 0 (refusalIn x)
 
