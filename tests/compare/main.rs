@@ -22,6 +22,8 @@ mod lent;
 mod network;
 mod packet;
 mod pair;
+#[path = "../planted.rs"]
+mod planted;
 mod quiet;
 mod report;
 mod rng;

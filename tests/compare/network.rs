@@ -1,4 +1,5 @@
 // A network as lists: each node's neighbours and each node's functions. Only `link_words` and `function_words` know how it is lent.
+use crate::planted::planted;
 use crate::stacks::{self, Change, Stacks};
 
 pub struct Function {
@@ -55,7 +56,7 @@ impl Network {
     // "It accepts, as a destination, exactly what it receives."
     pub fn accepts(&self, node: usize, x: u8) -> bool {
         self.functions[node].iter().any(|f| match f.change {
-            Change::Unwrap if cfg!(fault = "unwrap_row") => f.a == x,
+            Change::Unwrap if planted("unwrap_row") => f.a == x,
             Change::Unwrap => f.b == x,
             _ => f.a == x,
         })

@@ -1,5 +1,6 @@
 // What the table says to a packet: the next hop, and where it comes in a number of hops.
 use crate::network::Network;
+use crate::planted::planted;
 use crate::stacks;
 use crate::table::{Table, CEILING, NO_ROW};
 
@@ -66,7 +67,7 @@ pub fn carry(net: &Network, table: &Table, u: usize, d: usize, stack: &[u8], lim
     c.node = u;
     c.stack = stack.to_vec();
     loop {
-        let limit_first = cfg!(fault = "limit_first") && c.hops == limit as u64 && !net.arrived(c.node, d, &c.stack);
+        let limit_first = planted("limit_first") && c.hops == limit as u64 && !net.arrived(c.node, d, &c.stack);
         c.refused = match lookup(net, table, c.node, d, &c.stack) {
             _ if limit_first => 8,
             Lookup::Delivered => 0,

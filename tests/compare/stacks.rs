@@ -1,4 +1,5 @@
 // Stacks as lists of protocols, bottom to top. Numbers here are ranks: lower stacks first, then in the order of a dictionary.
+use crate::planted::planted;
 use std::collections::HashMap;
 
 // all stacks of p protocols up to height h in the order of their numbers: each stack is followed, later, by those that lie on it
@@ -109,10 +110,10 @@ pub fn apply(change: Change, a: u8, b: u8, stack: &[u8], h: usize) -> Option<Vec
 
 // the stack H of height at most h of which the function makes this one
 pub fn before(change: Change, a: u8, b: u8, stack: &[u8], h: usize) -> Option<Vec<u8>> {
-    if cfg!(fault = "stack_forward") {
+    if planted("stack_forward") {
         return apply(change, a, b, stack, h);
     }
-    let highest = if cfg!(fault = "height_untested") { h + 1 } else { h };
+    let highest = if planted("height_untested") { h + 1 } else { h };
     let top = *stack.last()?;
     let mut found = stack.to_vec();
     match change {

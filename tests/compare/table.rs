@@ -1,5 +1,6 @@
 // A routing table as maps: rows by node, destination and stack; messages by the row that they are about.
 use crate::network::Network;
+use crate::planted::planted;
 use crate::stacks::{self, Change};
 use std::collections::{BTreeMap, BTreeSet, HashMap};
 
@@ -79,7 +80,7 @@ impl Table {
 
     pub fn first(&self, net: &Network) -> Option<Message> {
         let ((sender, destination, _, stack), who) = self.waiting.iter().next()?;
-        let receiver = if cfg!(fault = "highest_bit") { who.iter().next_back() } else { who.iter().next() };
+        let receiver = if planted("highest_bit") { who.iter().next_back() } else { who.iter().next() };
         Some(Message { sender: *sender, receiver: *receiver?, destination: *destination, number: net.stacks.number(stack) })
     }
 
@@ -88,7 +89,7 @@ impl Table {
         let in_range = m.sender < net.n && m.receiver < net.n && m.destination < net.n;
         let stack = match net.stacks.stack(m.number) {
             Some(stack) if in_range => stack.clone(),
-            _ if cfg!(fault = "five_before_four") => return Err(5),
+            _ if planted("five_before_four") => return Err(5),
             _ => return Err(4),
         };
         let place = (m.sender, m.destination, stack.len(), stack);
@@ -103,11 +104,11 @@ impl Table {
         };
         if let Some(set) = self.waiting.get_mut(&place) {
             set.remove(&m.receiver);
-            if set.is_empty() || cfg!(fault = "all_bits_cleared") {
+            if set.is_empty() || planted("all_bits_cleared") {
                 self.waiting.remove(&place);
             }
         }
-        let fare = if cfg!(fault = "link_other_way") { link.back } else { link.there };
+        let fare = if planted("link_other_way") { link.back } else { link.there };
         Ok(self.hear(net, m, &place.3, heard, fare))
     }
 
@@ -121,12 +122,12 @@ impl Table {
                 None => continue,
             };
             let offer = so_far.saturating_add(fare + f.price);
-            if cfg!(fault = "price_adds_up") {
+            if planted("price_adds_up") {
                 so_far = so_far.saturating_add(f.price);
             }
             let key = (m.receiver, m.destination, found);
             let old = self.row(&key).cost;
-            if offer < old || (cfg!(fault = "takes_equal") && offer == old) {
+            if offer < old || (planted("takes_equal") && offer == old) {
                 let (u, d, found) = key;
                 self.put(u, d, found.clone(), Row { cost: offer, next: m.sender, function: number(f.change, f.a, f.b) });
                 self.tell(u, d, found, net.links[u].iter().map(|l| l.to));

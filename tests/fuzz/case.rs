@@ -5,6 +5,7 @@ use crate::bannogwy::{
 };
 use crate::call::Call;
 use crate::memory::{Lent, Slice, Vast};
+use crate::planted::planted;
 
 // the network and the table, lent to each of the seven calls
 pub struct Common {
@@ -86,8 +87,8 @@ impl Case {
 
     // planted: one protocol more than is lent, so that the library reads it from the page without access or, under the address checks, beside
     fn too_long(&self, h: usize) -> usize {
-        let planted = cfg!(fault = "longer_than_lent") && (1..h).contains(&self.stack.len());
-        usize::from(planted && self.stack.is_open_behind() == cfg!(address_checks))
+        let longer = planted("longer_than_lent") && (1..h).contains(&self.stack.len());
+        usize::from(longer && self.stack.is_open_behind() == cfg!(address_checks))
     }
 
     // every slice is as the independent program has it

@@ -27,27 +27,30 @@ fuzz_by_hand() {
     run_program "$out/fuzz" "$@"
 }
 
-# stopped FAULT TEXT BUILD WORD..: the program, built by this function with this fault planted, ends with status 1 and says this
+# stopped PROGRAM FAULT TEXT: the program with this fault planted ends with status 1 and says this
 stopped() {
-    local fault=$1 text=$2 build=$3 program=$out/fuzz-$1-$3 status
-    shift 3
-    "$build" "$program" "$@" -C opt-level=0 --cfg "fault=\"$fault\"" || return 1
-    run_program "$program" 60 >"$program.log" 2>&1
+    local program=$out/$1 log=$out/$1-$2.log status
+    FAULT=$2 run_program "$program" 60 >"$log" 2>&1
     status=$?
-    [ "$status" -eq 1 ] && grep -q "$text" "$program.log"
+    [ "$status" -eq 1 ] && grep -q "$3" "$log"
 }
 
-# repeated FAULT: the program that was built with this fault says the same once more, from the seed and the round that it named
+# repeated FAULT: with this fault the program says the same once more, from the seed and the round that it named
 repeated() {
-    local program=$out/fuzz-$1-build_fuzz log=$out/fuzz-$1-build_fuzz.log
+    local log=$out/fuzz-faulty-$1.log
     [[ $(cat "$log") =~ "mismatch: seed "([0-9]+)" round "([0-9]+) ]] || return 1
-    run_program "$program" 60 "${BASH_REMATCH[@]:1}" >"$log.again" 2>&1
+    FAULT=$1 run_program "$out/fuzz-faulty" 60 "${BASH_REMATCH[@]:1}" >"$log.again" 2>&1
     diff <(tail -n +2 "$log") <(tail -n +2 "$log.again")
 }
 
 # checked_fuzz: a shorter run with the address checks
 checked_fuzz() {
     build_checked_fuzz "$out/fuzz-checked" -O && run_program "$out/fuzz-checked" 10
+}
+
+# checked_longer: the address checks stop a slice that is longer than what is lent
+checked_longer() {
+    build_checked_fuzz "$out/fuzz-checked-faulty" --cfg faults && stopped fuzz-checked-faulty longer_than_lent 'use-after-poison'
 }
 
 # blind: a run that meets none of the answers fails
@@ -60,23 +63,25 @@ blind() {
 fuzz() {
     local fault
     printf '== bad input: raw numbers and slices against the independent program\n'
-    check 'the fuzzing program compiles' build_fuzz "$out/fuzz" "$library" -O
+    beside 'the fuzzing program compiles' build_fuzz "$out/fuzz" "$library" -O
+    beside 'the one with faults to plant compiles' build_fuzz "$out/fuzz-faulty" "$library" --cfg faults
+    together
     beside 'every answer and every slice is the independent one' run_program "$out/fuzz" 20
     beside 'a run that meets no answer fails' blind
     if [ "${#runner[@]}" -eq 0 ]; then
         beside 'the same under address checks' checked_fuzz
-        beside 'the address checks stop it: longer_than_lent' stopped longer_than_lent 'use-after-poison' build_checked_fuzz
+        beside 'the address checks stop it: longer_than_lent' checked_longer
     else
         printf 'without address checks, which the emulator does not know\n'
     fi
     for fault in three_before_two run_needs_three one_bit_more_cleared written_on_refusal short_answer_written bits_of_nodes_only \
         ceiling_one_lower checksum_unseen zeros_in_short_answer; do
-        beside "caught: $fault" stopped "$fault" '^mismatch: ' build_fuzz "$library"
+        beside "caught: $fault" stopped fuzz-faulty "$fault" '^mismatch: '
     done
     for fault in reads_behind reads_before longer_than_lent; do
-        beside "the page without access stops it: $fault" stopped "$fault" '^fault: an access outside the slices' build_fuzz "$library"
+        beside "the page without access stops it: $fault" stopped fuzz-faulty "$fault" '^fault: an access outside the slices'
     done
-    beside 'caught: writes_beside' stopped writes_beside '^bytes beside the slice' build_fuzz "$library"
+    beside 'caught: writes_beside' stopped fuzz-faulty writes_beside '^bytes beside the slice'
     together
     check 'repeated: ceiling_one_lower' repeated ceiling_one_lower
 }

@@ -25,6 +25,8 @@ mod model_headers;
 mod model_network;
 mod model_packets;
 mod model_table;
+#[path = "../planted.rs"]
+mod planted;
 #[allow(dead_code)]
 #[path = "../compare/rng.rs"]
 mod rng;

@@ -1,4 +1,5 @@
 // Memory for lent slices: each lies flush against a page that nobody may touch, and its open side holds bytes that no call may change.
+use crate::planted::planted;
 use crate::rng::Rng;
 use std::fmt::LowerHex;
 use std::os::raw::{c_int, c_void};
@@ -185,10 +186,10 @@ impl<T: Word> Lent<T> {
     fn trespass(&mut self) {
         let (before, behind) = ((self.at as *mut u8).wrapping_sub(1), self.at.wrapping_add(self.len) as *mut u8);
         let (shut, beside) = if self.is_open_behind() { (before, behind) } else { (behind, before) };
-        if cfg!(fault = "reads_behind") && shut == behind || cfg!(fault = "reads_before") && shut == before {
+        if planted("reads_behind") && shut == behind || planted("reads_before") && shut == before {
             unsafe { shut.read_volatile() };
         }
-        if cfg!(fault = "writes_beside") && self.open.len > 0 {
+        if planted("writes_beside") && self.open.len > 0 {
             unsafe { *beside ^= 1 };
         }
     }

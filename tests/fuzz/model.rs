@@ -5,6 +5,7 @@ use crate::model_headers::read_stack;
 use crate::model_network::lent;
 use crate::model_packets::{carry, lookup, Look};
 use crate::model_table::{count, deliver, first_waiting, fresh, run, Message, Ran};
+use crate::planted::planted;
 use crate::stacks::{self, Change};
 
 fn refused(number: u64) -> u64 {
@@ -61,7 +62,7 @@ fn on_table(case: &mut Case, call: &Call) -> Result<u64, u64> {
 }
 
 fn running(case: &mut Case, limit: &mut u32) -> u64 {
-    if case.answer.len() < if cfg!(fault = "run_needs_three") { 3 } else { 2 } {
+    if case.answer.len() < if planted("run_needs_three") { 3 } else { 2 } {
         return refused(9);
     }
     let ran = match lent(&mut case.common) {
@@ -94,7 +95,7 @@ fn looking(case: &mut Case, node: usize, destination: usize) -> Result<u64, u64>
 fn carrying(case: &mut Case, node: usize, destination: usize, limit: usize) -> u64 {
     let room = case.answer.len();
     if room < 4 {
-        if cfg!(fault = "short_answer_written") {
+        if planted("short_answer_written") {
             case.answer.want.fill(0);
         }
         return refused(9);
@@ -128,7 +129,7 @@ fn written(out: &mut [u8], stack: Option<Vec<u8>>) -> u64 {
             out[..stack.len()].copy_from_slice(&stack);
             stack.len() as u64
         }
-        Some(stack) if cfg!(fault = "written_on_refusal") => {
+        Some(stack) if planted("written_on_refusal") => {
             let room = out.len();
             out.copy_from_slice(&stack[..room]);
             refused(4)

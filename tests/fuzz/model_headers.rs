@@ -1,4 +1,5 @@
 // The independent program's reading of a packet: the text of include/bannogwy.h and RFCs 791 and 8200, on bytes that each header narrows.
+use crate::planted::planted;
 use crate::stacks;
 
 // what a header that passes its tests says
@@ -39,7 +40,7 @@ fn ipv4(held: &[u8]) -> Result<Header, u64> {
     if packet_length > held.len() {
         return Err(64);
     }
-    if ones_sum(&held[..length]) != 0xFFFF && !cfg!(fault = "checksum_unseen") {
+    if ones_sum(&held[..length]) != 0xFFFF && !planted("checksum_unseen") {
         return Err(65);
     }
     let (more_to_come, offset) = (held[6] & 0x20 != 0, field(held, 6) & 0x1FFF);
@@ -94,7 +95,7 @@ fn followed(h: usize, packet: &[u8]) -> Result<(Vec<u8>, usize, usize), Refused>
 // the refusal, or 0; `out` and `answer` become what they must be
 pub fn read_stack(h: usize, packet: &[u8], out: &mut [u8], answer: &mut [u64]) -> u64 {
     if answer.len() < 4 {
-        if cfg!(fault = "zeros_in_short_answer") {
+        if planted("zeros_in_short_answer") {
             answer.fill(0);
         }
         return 9;

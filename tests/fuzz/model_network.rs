@@ -1,5 +1,6 @@
 // The independent program's network: the lent numbers and slices themselves, and refusals 1, 2 and 3, which every call tests first.
 use crate::case::Common;
+use crate::planted::planted;
 use crate::stacks::{self, Change};
 
 pub const CHANGES: [Change; 3] = [Change::Convert, Change::Wrap, Change::Unwrap];
@@ -79,7 +80,7 @@ pub fn lent(common: &mut Common) -> Result<(Network<'_>, Table<'_>), u64> {
     let network = Network::sized(*n, *p, *h, links.words(), functions.words()).ok_or(1u64)?;
     let rows = network.rows();
     let wrong = [cost.len(), way.len(), waiting.len()].iter().any(|&len| len != rows);
-    if cfg!(fault = "three_before_two") && wrong {
+    if planted("three_before_two") && wrong {
         return Err(3);
     }
     if !network.goes_both_ways() {

@@ -1,6 +1,7 @@
 // The independent program's lookup and carry.
 use crate::model_network::{Network, Table};
 use crate::model_table::{CEILING, NO_ROW};
+use crate::planted::planted;
 use crate::stacks;
 
 pub enum Look {
@@ -35,7 +36,7 @@ pub fn lookup(net: &Network, table: &Table, u: usize, d: usize, stack: &[u8]) ->
     }
     let row = net.row(u, d, number);
     let cost = table.cost[row];
-    let highest = if cfg!(fault = "ceiling_one_lower") { CEILING - 1 } else { CEILING };
+    let highest = if planted("ceiling_one_lower") { CEILING - 1 } else { CEILING };
     if cost == NO_ROW {
         return Look::Refused(6);
     }

@@ -1,5 +1,6 @@
 // The independent program's calls on a table: fresh, count, first waiting, deliver and run, one row after the other.
 use crate::model_network::{Network, Table, CHANGES};
+use crate::planted::planted;
 use crate::stacks;
 
 pub const NO_ROW: u32 = 4_294_967_295;
@@ -37,7 +38,7 @@ pub fn fresh(net: &Network, table: &mut Table) {
 }
 
 pub fn count(net: &Network, table: &Table) -> u64 {
-    let seen = if cfg!(fault = "bits_of_nodes_only") && net.n < 32 { (1 << net.n) - 1 } else { u32::MAX };
+    let seen = if planted("bits_of_nodes_only") && net.n < 32 { (1 << net.n) - 1 } else { u32::MAX };
     table.waiting.iter().map(|word| u64::from((word & seen).count_ones())).sum()
 }
 
@@ -61,7 +62,7 @@ pub fn deliver(net: &Network, table: &mut Table, m: &Message) -> Result<u64, u64
     let cost = table.cost[row];
     let link = net.link(m.receiver, m.sender).filter(|_| cost <= CEILING).ok_or(7u64)?;
     table.waiting[row] &= !(1 << m.receiver);
-    if cfg!(fault = "one_bit_more_cleared") {
+    if planted("one_bit_more_cleared") {
         table.waiting[row] &= table.waiting[row].wrapping_sub(1);
     }
     Ok(hear(net, table, m, &heard, u64::from(cost) + link))

@@ -13,7 +13,7 @@ use Rattle.table.specs.Answers.{stepRefusalIn, refusal, okMessage, waits, okSen
 use Rattle.table.specs.Run.{Outcome, after, ends, turn, steps, runOf}
 use Rattle.table.specs.declared.Delivered.{Delivered}
 use Rattle.table.proofs.Begins.{rows-few}
-use Rattle.packing.proofs.Refusals.{refusal-few, ready-then}
+use Rattle.table.proofs.Refusals.{refusal-few, ready-then}
 use Rattle.deliver_exports.specs.Ranges.{DeliveredFits}
 use Rattle.table.proofs.Deliveries.{offers-most}
 

@@ -16,7 +16,7 @@ use Rattle.forward.specs.Forward.{costOf, nextOf, functionOf, resultOf, okRow, 
 use Rattle.forward.specs.Answers.{lookRefusal}
 use Rattle.forward.specs.declared.Look.{Look}
 use Rattle.carry.specs.Carry.{Journey, stop, onward, journey, carryOf}
-use Rattle.packing.proofs.Refusals.{refusal-few}
+use Rattle.table.proofs.Refusals.{refusal-few}
 use Rattle.packing.proofs.Unpacked.{end-back}
 use Rattle.packet_exports.specs.Four.{fourPacked, fourNumbers, carryFour, unpackCarry}
 

@@ -20,7 +20,7 @@ use Rattle.packet.specs.Packet.{okPacket}
 use Rattle.forward.specs.Answers.{lookupOf}
 use Rattle.forward.specs.declared.Look.{Look}
 use Rattle.forward.proofs.Tells.{forward-tells}
-use Rattle.packing.proofs.Refusals.{by-refusal}
+use Rattle.table.proofs.Refusals.{by-refusal}
 use Rattle.packet_exports.specs.Packing.{packLook, unpackLook}
 use Rattle.packet_exports.specs.Ranges.{ForwardFits, LookFits}
 use Rattle.packet_exports.proofs.Unpacked.{look-back}
@@ -54,7 +54,7 @@ module _ (net : Network) (t : Table) (ready : Ready net t (stacks net)) (U D N :
 module _ (net : Network) (t : Table) (U D : ℕ) (stack : List ℕ) where
   pub look-fits : LookFits (lookupOf net t U D stack)
   look-fits = by-refusal net t LookFits (cond (okPacket net U D stack) (lookAt net t U D (number (net .p) stack)) (Look.Refused 4)) (Look.Refused (refusal net t))
-      (λ r. go r (okPacket net U D stack)) (λ f. f)
+      (λ r. go r (okPacket net U D stack)) (λ some few. record { some = some; most = omega (arith, few) })
     where
       go : Ready net t (stacks net) → (b : Bool) → LookFits (cond b (lookAt net t U D (number (net .p) stack)) (Look.Refused 4))
       go r true = at-fits net t r U D (number (net .p) stack)

@@ -10,9 +10,6 @@ pub mod Refusals
 pub mod Silence
 pub mod Routing
 pub mod Least
-pub mod Examples
-pub mod Coincide
-pub mod CoincideExported
 pub mod Fitting
 pub mod Running
 pub mod Settling

@@ -1,4 +1,3 @@
 -- The definitions of crate promise.
 pub mod Routes
 pub mod Promise
-pub mod Examples

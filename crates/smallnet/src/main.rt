@@ -66,6 +66,14 @@ fn number(x: u64) {
     io::print_decimal(STDOUT_FILENO, x);
 }
 
+fn space() {
+    text(b" ");
+}
+
+fn end_line() {
+    text(b"\n");
+}
+
 fn letter(protocol: usize) {
     if protocol == 0 {
         text(b"a");
@@ -114,28 +122,33 @@ fn print_function(function: usize) {
     }
 }
 
-// One line: node, destination, stack, cost, next node, function; two dashes at a delivery row.
+// The way's next node and function, or two dashes at a delivery row.
+fn print_way(way: u16) {
+    if way == 65535 {
+        text(b" - -");
+        return;
+    }
+    let named = way as usize;
+    space();
+    number((named / 256) as u64);
+    space();
+    print_function(named % 256);
+}
+
+// One line: node, destination, stack, cost, next node, function.
 fn print_row(place: usize, cost: u32, way: u16) {
     if cost == 4294967295 {
         return;
     }
     number((place / 6 / 4) as u64);
-    text(b" ");
+    space();
     number((place / 6 % 4) as u64);
-    text(b" ");
+    space();
     print_stack(place % 6 + 1);
-    text(b" ");
+    space();
     number(cost as u64);
-    if way == 65535 {
-        text(b" - -\n");
-        return;
-    }
-    let named = way as usize;
-    text(b" ");
-    number((named / 256) as u64);
-    text(b" ");
-    print_function(named % 256);
-    text(b"\n");
+    print_way(way);
+    end_line();
 }
 
 fn print_rows(cost: &[u32], way: &[u16]) {
@@ -148,7 +161,23 @@ fn print_rows(cost: &[u32], way: &[u16]) {
     }
 }
 
+fn print_messages(messages: Counted) {
+    match messages {
+        Counted::Messages(waiting) => {
+            text(b"waiting ");
+            number(waiting);
+        }
+        Counted::Refused(refusal) => {
+            text(b"refused ");
+            number(refusal as u64);
+        }
+    }
+    end_line();
+}
+
 fn main() {
+    let links = LINKS;
+    let functions = FUNCTIONS;
     let mut cost = [0u32; 96];
     let mut way = [0u16; 96];
     let mut waiting = [0u32; 96];
@@ -156,8 +185,8 @@ fn main() {
         4,
         2,
         2,
-        &LINKS,
-        &FUNCTIONS,
+        &links,
+        &functions,
         &mut cost,
         &mut way,
         &mut waiting,
@@ -166,24 +195,13 @@ fn main() {
         4,
         2,
         2,
-        &LINKS,
-        &FUNCTIONS,
+        &links,
+        &functions,
         &mut cost,
         &mut way,
         &mut waiting,
         1000,
     );
     print_rows(&cost, &way);
-    match table::count(4, 2, 2, &LINKS, &FUNCTIONS, &cost, &way, &waiting) {
-        Counted::Messages(messages) => {
-            text(b"waiting ");
-            number(messages);
-            text(b"\n");
-        }
-        Counted::Refused(refusal) => {
-            text(b"refused ");
-            number(refusal as u64);
-            text(b"\n");
-        }
-    }
+    print_messages(table::count(4, 2, 2, &links, &functions, &cost, &way, &waiting));
 }

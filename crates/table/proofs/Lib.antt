@@ -1,5 +1,6 @@
 -- The laws of crate table, and what they rest on.
 pub mod Begins
+pub mod Refusals
 pub mod Places
 pub mod Firsts
 pub mod Walk

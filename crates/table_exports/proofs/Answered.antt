@@ -19,7 +19,8 @@ use Rattle.table.specs.declared.Counted.{Counted}
 use Rattle.table.specs.declared.First.{First}
 use Rattle.table.proofs.Begins.{Ready, divides, rows-few}
 use Rattle.table.proofs.Rows.{is-row}
-use Rattle.packing.proofs.Refusals.{by-refusal}
+use Rattle.table.proofs.Refusals.{by-refusal}
+use Rattle.packing.specs.Ranges.{RefusalFits}
 use Rattle.table_exports.specs.Ranges.{CountedFits, FirstFits}
 
 -- ---- the count of messages: 32 bits to a word
@@ -38,11 +39,15 @@ fresh-long net = length-tabulate (rowsAll net) _
 fresh-most : (net : Network) (t : Table) → Ready net t (stacks net) → onesIn (fresh net .waiting) ≤ 16777216
 fresh-most net t r = omega (arith, ones-most (fresh net .waiting), fresh-long net, rows-few net t (stacks net) r .2)
 
+-- a table's refusals are within the range
+fits : {r : ℕ} → 1 ≤ r → r ≤ 3 → RefusalFits r
+fits some few = record { some = some; most = omega (arith, few) }
+
 pub count-fits : (net : Network) (t : Table) → CountedFits (countAnswer net t)
-count-fits net t = by-refusal net t CountedFits (Counted.Messages (onesIn (t .waiting))) (Counted.Refused (refusal net t)) (λ r. omega (arith, count-most net t r)) (λ f. f)
+count-fits net t = by-refusal net t CountedFits (Counted.Messages (onesIn (t .waiting))) (Counted.Refused (refusal net t)) (λ r. omega (arith, count-most net t r)) fits
 
 pub fresh-fits : (net : Network) (t : Table) → CountedFits (freshAnswer net t)
-fresh-fits net t = by-refusal net t CountedFits (Counted.Messages (onesIn (fresh net .waiting))) (Counted.Refused (refusal net t)) (λ r. omega (arith, fresh-most net t r)) (λ f. f)
+fresh-fits net t = by-refusal net t CountedFits (Counted.Messages (onesIn (fresh net .waiting))) (Counted.Refused (refusal net t)) (λ r. omega (arith, fresh-most net t r)) fits
 
 -- ---- the first message
 module _ (net : Network) (t : Table) (r : Ready net t (stacks net)) where
@@ -60,4 +65,4 @@ module _ (net : Network) (t : Table) (r : Ready net t (stacks net)) where
       }
 
 pub first-fits : (net : Network) (t : Table) → FirstFits (firstAnswer net t)
-first-fits net t = by-refusal net t FirstFits (firstOf net t (firstIn (t .waiting))) (First.Refused (refusal net t)) (λ r. found-fits net t r (firstIn (t .waiting)) refl) (λ f. f)
+first-fits net t = by-refusal net t FirstFits (firstOf net t (firstIn (t .waiting))) (First.Refused (refusal net t)) (λ r. found-fits net t r (firstIn (t .waiting)) refl) fits

@@ -20,7 +20,7 @@ use Rattle.deliver_exports.specs.Packing.{packDelivered}
 use Rattle.deliver_exports.specs.Run.{RunExported}
 use Rattle.packet_exports.specs.Packing.{packLook}
 use Rattle.packet_exports.specs.Four.{FourExported, carryFour, ReadExported}
-use Rattle.promise.proofs.Coincide.{One, OneBoth, one, both}
+use Rattle.coincide.proofs.Functions.{One, OneBoth, one, both}
 
 -- ---- packing
 pub packed-refused : (refusal : ℕ) → One (λ (r : ℕ). r ≡ packRefused refusal)

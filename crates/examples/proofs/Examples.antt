@@ -16,7 +16,7 @@ use Rattle.table.specs.Run.{runOf}
 use Rattle.forward.specs.Forward.{okRow, lookAt}
 use Rattle.packet.specs.Packet.{okPacket}
 use Rattle.carry.specs.Carry.{carryOf}
-use Rattle.promise.specs.Examples.{Examples}
+use Rattle.examples.specs.Examples.{Examples}
 
 pub examples : Examples
 unfolding tabulate every some firstBelow howMany wins okSize okNumber okStack okFunction okMove has without withAll wordOf lowest onesOf onesIn firstFrom firstIn isNode linkAt present neighboursAt wordAt receivesAt accepts okSizes okLinks refusalOf can price weight leadsBy leader offer takes costAt wayAt waitingAt heard taken fresh home rowsIn withRowsIn clearedAt delivered offersTaken okLengths refusalBy refusal okMessageIn waitsIn okSenderIn stepRefusalIn deliverRefusal deliverTable runOf okRow lookAt okPacket carryOf

@@ -1,4 +1,4 @@
--- Refusals 1 to 3 of a table are within the range, and a table that is not refused is right.
+-- A table is refused 1, 2 or 3, and one that is not refused is right.
 use Prim.Native.Nat.{_≤_}
 use native.Mathlib.Omega.{arith}
 use mathlib.Core.Path.{_≡_, refl}
@@ -9,10 +9,9 @@ use borrow.Author.Tests.{eqb-true, eqb-false}
 use Rattle.network.specs.Network.{Network, stacks, refusalOf}
 use Rattle.network.specs.declared.Checked.{Checked}
 use Rattle.network.proofs.Laws.{refusal-most}
 use Rattle.table.specs.Table.{Table}
 use Rattle.table.specs.Answers.{okLengths, refusalBy, refusal}
 use Rattle.table.proofs.Begins.{Ready, is-ready}
-use Rattle.packing.specs.Ranges.{RefusalFits}
 
 module _ (net : Network) (t : Table) where
   pub refusal-few : refusal net t ≤ 3
@@ -23,9 +22,6 @@ module _ (net : Network) (t : Table) where
       go true true = omega arith
       go true false = omega arith
       go false b = omega (arith, refusal-most net)
-
-  refusal-fits : (refusal net t ≡ 0 → ⊥) → RefusalFits (refusal net t)
-  refusal-fits n = record { some = omega (arith, n); most = omega (arith, refusal-few) }
 
   pub ready-then : refusal net t ≡ 0 → Ready net t (stacks net)
   unfolding refusal refusalBy
@@ -38,10 +34,10 @@ module _ (net : Network) (t : Table) where
       go false u b d = absurd (eqb-false (refusalOf net) 0 u d)
 
   -- what holds of a refusal and, in a table that is right, of what the call answers there, holds of its answer
-  pub by-refusal : {A : Type 0} (P : A → Type 0) (answer refused : A) → (Ready net t (stacks net) → P answer) → (RefusalFits (refusal net t) → P refused)
+  pub by-refusal : {A : Type 0} (P : A → Type 0) (answer refused : A) → (Ready net t (stacks net) → P answer) → (1 ≤ refusal net t → refusal net t ≤ 3 → P refused)
       → P (cond (eqb (refusal net t) 0) answer refused)
   by-refusal P answer refused f g = go (eqb (refusal net t) 0) refl
     where
       go : (b : Bool) → eqb (refusal net t) 0 ≡ b → P (cond b answer refused)
       go true e = f (ready-then (eqb-true (refusal net t) 0 e))
-      go false e = g (refusal-fits (eqb-false (refusal net t) 0 e))
+      go false e = let some = eqb-false (refusal net t) 0 e in g (omega (arith, some)) refusal-few

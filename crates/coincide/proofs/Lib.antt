@@ -1,0 +1,3 @@
+-- The theorems of crate coincide.
+pub mod Functions
+pub mod Exported

@@ -1,0 +1,2 @@
+-- The definitions of crate examples.
+pub mod Examples
