@@ -1,12 +1,17 @@
 -- What `moved_by` answers at each return, over plain variables.
 use Prim.Native.Nat.{ℕ, zero, suc, _+_, _*_, _≤_, _<_}
 use mathlib.Core.Path.{_≡_, refl}
-use mathlib.Core.Bool.{cond, _&&_}
-use lib.Dec.{eqb, ltb}
-use borrow.Author.Tests.{eq-eqb, ne-eqb, lt-ltb, le-ltb, le-leb, lt-leb}
+use mathlib.Core.Bool.{Bool, true, false, cond, _&&_}
+use lib.Dec.{eqb, leb, ltb}
+use borrow.Author.Tests.{eq-eqb, ne-eqb}
+use Rattle.lists.proofs.Tests.{both}
 use Rattle.stacks.specs.Stacks.{top, rest}
 use Rattle.functions.specs.Answers.{moveNumber}
 use Rattle.functions.specs.declared.After.the-variants.{Number, NotApplicable}
+
+grouped : (x y z : Bool) → (x && (y && z)) ≡ ((x && y) && z)
+grouped true y z = refl
+grouped false y z = refl
 
 module _ (p most k a b n : ℕ) where
   module _ (kind : k ≡ 0) where
@@ -17,14 +22,11 @@ module _ (p most k a b n : ℕ) where
     not-converted other = simp (kind, ne-eqb (top p n) a other)
 
   module _ (kind : k ≡ 1) where
-    pub wrapped : top p n ≡ a → p * n + b + 1 ≤ most → Number (p * n + b + 1) ≡ moveNumber p most k a b n
-    wrapped is low = simp (kind, eq-eqb (top p n) a is, le-leb (p * n + b + 1) most low)
+    pub wrapped : (eqb (top p n) a && leb (p * n + b + 1) most) ≡ true → Number (p * n + b + 1) ≡ moveNumber p most k a b n
+    wrapped fits = simp (kind, fits)
 
-    pub too-high : top p n ≡ a → most < p * n + b + 1 → NotApplicable ≡ moveNumber p most k a b n
-    too-high is high = simp (kind, eq-eqb (top p n) a is, lt-leb (p * n + b + 1) most high)
-
-    pub not-wrapped : (top p n ≡ a → ⊥) → NotApplicable ≡ moveNumber p most k a b n
-    not-wrapped other = simp (kind, ne-eqb (top p n) a other)
+    pub not-wrapped : (eqb (top p n) a && leb (p * n + b + 1) most) ≡ false → NotApplicable ≡ moveNumber p most k a b n
+    not-wrapped off = simp (kind, off)
 
   -- at a kind that is neither 0 nor 1
   third : (k ≡ 0 → ⊥) → (k ≡ 1 → ⊥)
@@ -38,15 +40,12 @@ module _ (p most k a b n : ℕ) where
       go (suc (suc x)) z o = refl
 
   module _ (z : k ≡ 0 → ⊥) (o : k ≡ 1 → ⊥) where
-    pub other-top : (top p n ≡ b → ⊥) → NotApplicable ≡ moveNumber p most k a b n
-    other-top other = simp (third z o, ne-eqb (top p n) b other)
+    pub one-high : (eqb (top p n) b && ltb 0 (rest p n)) ≡ false → NotApplicable ≡ moveNumber p most k a b n
+    one-high off = simp (third z o, grouped (eqb (top p n) b) (ltb 0 (rest p n)) (eqb (top p (rest p n)) a), off)
 
-    module _ (is : top p n ≡ b) where
-      pub one-high : rest p n ≤ 0 → NotApplicable ≡ moveNumber p most k a b n
-      one-high none = simp (third z o, eq-eqb (top p n) b is, le-ltb 0 (rest p n) none)
+    module _ (high : (eqb (top p n) b && ltb 0 (rest p n)) ≡ true) where
+      pub unwrapped : top p (rest p n) ≡ a → Number (rest p n) ≡ moveNumber p most k a b n
+      unwrapped below = let h = both (eqb (top p n) b) (ltb 0 (rest p n)) high in simp (third z o, h .0, h .1, eq-eqb (top p (rest p n)) a below)
 
-      pub unwrapped : 0 < rest p n → top p (rest p n) ≡ a → Number (rest p n) ≡ moveNumber p most k a b n
-      unwrapped more below = simp (third z o, eq-eqb (top p n) b is, lt-ltb 0 (rest p n) more, eq-eqb (top p (rest p n)) a below)
-
-      pub not-unwrapped : 0 < rest p n → (top p (rest p n) ≡ a → ⊥) → NotApplicable ≡ moveNumber p most k a b n
-      not-unwrapped more other = simp (third z o, eq-eqb (top p n) b is, lt-ltb 0 (rest p n) more, ne-eqb (top p (rest p n)) a other)
+      pub not-unwrapped : (top p (rest p n) ≡ a → ⊥) → NotApplicable ≡ moveNumber p most k a b n
+      not-unwrapped other = let h = both (eqb (top p n) b) (ltb 0 (rest p n)) high in simp (third z o, h .0, h .1, ne-eqb (top p (rest p n)) a other)

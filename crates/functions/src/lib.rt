@@ -1,6 +1,8 @@
 // The functions on stacks: convert, wrap and unwrap, by the numbers of stacks. Every public function takes any input; its contract is an equation in specs/Answers.antt.
 ghost use mathlib.Core.Path.{_≡_};
+ghost use mathlib.Core.Bool.{_&&_};
 ghost use Prim.Native.Nat.{_≤_, _<_};
+ghost use lib.Dec.{leb};
 ghost use Rattle.functions.specs.Functions.{okFunction, inverse};
 ghost use Rattle.functions.specs.Answers.{appliedOf, moveNumber, movedOf, inverseOf};
 use stacks::Answer;
@@ -12,16 +14,11 @@ pub enum After {
     Refused(u32),
 }
 
+// Whether p is in range and f is a function on the protocols below p.
 fn good_function(p: usize, f: usize) -> bool
-    ensures { λ r. ⌜ r ≡ okFunction p f ⌝ }
+    ensures { λ r. ⌜ r ≡ leb 1 p && (leb p 8 && okFunction p f) ⌝ }
 {
-    if 191 < f {
-        return false;
-    }
-    if p <= f / 8 % 8 {
-        return false;
-    }
-    f % 8 < p
+    (p <= 8) & (f < 192) & (f / 8 % 8 < p) & (f % 8 < p)
 }
 
 // A function of a kind, from protocol a and to protocol b, on the stack of a number, where there are most stacks.
@@ -39,19 +36,14 @@ fn moved_by(p: usize, most: usize, kind: usize, a: usize, b: usize, number: usiz
     }
     if kind == 1 {
         let up = p * number + b + 1;
-        if top == a {
-            if up <= most {
-                return After::Number(up);
-            }
+        if (top == a) & (up <= most) {
+            return After::Number(up);
         }
         return After::NotApplicable;
     }
-    if top == b {
-        if 0 < rest {
-            let under = (rest - 1) % p;
-            if under == a {
-                return After::Number(rest);
-            }
+    if (top == b) & (0 < rest) {
+        if (rest - 1) % p == a {
+            return After::Number(rest);
         }
     }
     After::NotApplicable
@@ -61,26 +53,12 @@ fn moved_by(p: usize, most: usize, kind: usize, a: usize, b: usize, number: usiz
 pub fn moved(p: usize, most: usize, f: usize, number: usize) -> After
     ensures { λ r. ⌜ r ≡ movedOf p most f number ⌝ }
 {
-    if p < 1 {
-        return After::Refused(4);
-    }
-    if 8 < p {
-        return After::Refused(4);
-    }
-    if 78536544840 < most {
-        return After::Refused(4);
-    }
-    if number < 1 {
-        return After::Refused(4);
-    }
-    if most < number {
-        return After::Refused(4);
-    }
     if good_function(p, f) {
-        moved_by(p, most, f / 64, f / 8 % 8, f % 8, number)
-    } else {
-        After::Refused(4)
+        if (most <= 78536544840) & (1 <= number) & (number <= most) {
+            return moved_by(p, most, f / 64, f / 8 % 8, f % 8, number);
+        }
     }
+    After::Refused(4)
 }
 
 // The number of the stack that the function f makes of the stack of a number.
@@ -110,15 +88,8 @@ fn inverted(f: usize) -> usize
 pub fn inverse_of(p: usize, f: usize) -> Answer
     ensures { λ r. ⌜ r ≡ inverseOf p f ⌝ }
 {
-    if p < 1 {
-        return Answer::Refused(4);
-    }
-    if 8 < p {
-        return Answer::Refused(4);
-    }
     if good_function(p, f) {
-        Answer::Value(inverted(f))
-    } else {
-        Answer::Refused(4)
+        return Answer::Value(inverted(f));
     }
+    Answer::Refused(4)
 }

@@ -3,7 +3,11 @@ use Prim.Native.Nat.{_-_}
 use native.Mathlib.Nat.{mul-div-le, mul-le-mul-right}
 use native.Mathlib.Omega.{arith}
 use borrow.Author.Needs.{needs}
-use Rattle.functions.proofs.Returns.{converted, not-converted, wrapped, too-high, not-wrapped, other-top, one-high, unwrapped, not-unwrapped}
+use borrow.Author.Tests.{ltb-true}
+use lib.Dec.{eqb}
+use Rattle.lists.proofs.Tests.{both}
+use Rattle.stacks.specs.Stacks.{top, rest}
+use Rattle.functions.proofs.Returns.{converted, not-converted, wrapped, not-wrapped, one-high, unwrapped, not-unwrapped}
 use Rattle.functions.proofs.moved_by.Statement.{statement}
 use Rattle.functions.proofs.moved_by.Tie as tie
 
@@ -19,14 +23,14 @@ sub-rest c = search needs
 div-rest : tie.Need-div-rest
 div-rest c = search needs
 
-mul-t14 : tie.Need-mul-t14
-mul-t14 c = omega (arith, mul-div-le (c .before .before .args .number - 1) (c .before .before .args .p))
+mul-t13 : tie.Need-mul-t13
+mul-t13 c = omega (arith, mul-div-le (c .before .before .args .number - 1) (c .before .before .args .p))
+
+add-t14 : tie.Need-add-t14
+add-t14 c = omega (arith, mul-div-le (c .before .before .args .number - 1) (c .before .before .args .p))
 
 add-t15 : tie.Need-add-t15
 add-t15 c = omega (arith, mul-div-le (c .before .before .args .number - 1) (c .before .before .args .p))
-
-add-t16 : tie.Need-add-t16
-add-t16 c = omega (arith, mul-div-le (c .before .before .args .number - 1) (c .before .before .args .p))
 
 returns : tie.Need-returns
 returns c = let a = c .before .before .args in converted (a .p) (a .most) (a .kind) (a .a) (a .b) (a .number) (c .before .if1 .taken) (c .if2 .taken)
@@ -44,31 +48,27 @@ add-up-2 : tie.Need-add-up-2
 add-up-2 c = omega (arith, mul-le-mul-right (c .before .before .args .number) (c .before .before .pre .1))
 
 returns-3 : tie.Need-returns-3
-returns-3 c = let a = c .before .before .before .before .args in wrapped (a .p) (a .most) (a .kind) (a .a) (a .b) (a .number) (c .before .before .if3 .taken) (c .before .if4 .taken) (c .if5 .taken)
+returns-3 c = let a = c .before .before .before .args in wrapped (a .p) (a .most) (a .kind) (a .a) (a .b) (a .number) (c .before .if3 .taken) (c .if4 .taken)
 
 returns-4 : tie.Need-returns-4
-returns-4 c = let a = c .before .before .before .before .args in too-high (a .p) (a .most) (a .kind) (a .a) (a .b) (a .number) (c .before .before .if3 .taken) (c .before .if4 .taken) (c .if5 .left)
+returns-4 c = let a = c .before .before .before .args in not-wrapped (a .p) (a .most) (a .kind) (a .a) (a .b) (a .number) (c .before .if3 .taken) (c .if4 .left)
+
+sub-if6 : tie.Need-sub-if6
+sub-if6 c =
+    let a = c .before .before .before .args in
+    omega (arith, ltb-true 0 (rest (a .p) (a .number)) (both (eqb (top (a .p) (a .number)) (a .b)) _ (c .if5 .taken) .1))
+
+rem-if6 : tie.Need-rem-if6
+rem-if6 c = search needs
 
 returns-5 : tie.Need-returns-5
-returns-5 c = let a = c .before .before .before .args in not-wrapped (a .p) (a .most) (a .kind) (a .a) (a .b) (a .number) (c .before .if3 .taken) (c .if4 .left)
-
-sub-under : tie.Need-sub-under
-sub-under c = search needs
-
-rem-under : tie.Need-rem-under
-rem-under c = search needs
+returns-5 c = let a = c .before .before .before .before .args in unwrapped (a .p) (a .most) (a .kind) (a .a) (a .b) (a .number) (c .before .before .before .if1 .left) (c .before .before .if3 .left) (c .before .if5 .taken) (c .if6 .taken)
 
 returns-6 : tie.Need-returns-6
-returns-6 c = let a = c .before .before .before .before .before .args in unwrapped (a .p) (a .most) (a .kind) (a .a) (a .b) (a .number) (c .before .before .before .before .if1 .left) (c .before .before .before .if3 .left) (c .before .before .if6 .taken) (c .before .if7 .taken) (c .if8 .taken)
+returns-6 c = let a = c .before .before .before .before .args in not-unwrapped (a .p) (a .most) (a .kind) (a .a) (a .b) (a .number) (c .before .before .before .if1 .left) (c .before .before .if3 .left) (c .before .if5 .taken) (c .if6 .left)
 
 returns-7 : tie.Need-returns-7
-returns-7 c = let a = c .before .before .before .before .before .args in not-unwrapped (a .p) (a .most) (a .kind) (a .a) (a .b) (a .number) (c .before .before .before .before .if1 .left) (c .before .before .before .if3 .left) (c .before .before .if6 .taken) (c .before .if7 .taken) (c .if8 .left)
-
-returns-8 : tie.Need-returns-8
-returns-8 c = let a = c .before .before .before .before .args in one-high (a .p) (a .most) (a .kind) (a .a) (a .b) (a .number) (c .before .before .before .if1 .left) (c .before .before .if3 .left) (c .before .if6 .taken) (c .if7 .left)
-
-returns-9 : tie.Need-returns-9
-returns-9 c = let a = c .before .before .before .args in other-top (a .p) (a .most) (a .kind) (a .a) (a .b) (a .number) (c .before .before .if1 .left) (c .before .if3 .left) (c .if6 .left)
+returns-7 c = let a = c .before .before .before .args in one-high (a .p) (a .most) (a .kind) (a .a) (a .b) (a .number) (c .before .before .if1 .left) (c .before .if3 .left) (c .if5 .left)
 
 pub moved-by-spec : {M : Type 1} → statement M
 moved-by-spec =
@@ -78,9 +78,9 @@ moved-by-spec =
     rem-top
     sub-rest
     div-rest
-    mul-t14
+    mul-t13
+    add-t14
     add-t15
-    add-t16
     returns
     returns-2
     mul-up
@@ -88,10 +88,8 @@ moved-by-spec =
     add-up-2
     returns-3
     returns-4
+    sub-if6
+    rem-if6
     returns-5
-    sub-under
-    rem-under
     returns-6
-    returns-7
-    returns-8
-    returns-9)
+    returns-7)
