@@ -25,31 +25,27 @@ module _ (net : Network) (costs ways waits s : ℕ) (found : checkedOf net ≡ C
   rows-are : net .n * (net .n * s) ≡ rowsAll net
   rows-are = ap (λ (k : ℕ). net .n * (net .n * k)) (checked-valid net s found .1)
 
-  pub costs-long : (costs ≡ net .n * (net .n * s) → ⊥) → Checked.Refused 3 ≡ readyOf net costs ways waits
-  unfolding okLengths refusalBy
-  costs-long other = simp (eq-eqb (refusalOf net) 0 right, ne-eqb costs (rowsAll net) (λ (e : costs ≡ rowsAll net). other (e ∙ sym rows-are)))
+  -- the lengths as the code tests them
+  abbrev long : Bool
+  long = eqb costs (net .n * (net .n * s)) && (eqb ways (net .n * (net .n * s)) && eqb waits (net .n * (net .n * s)))
 
-  pub ways-long : costs ≡ net .n * (net .n * s) → (ways ≡ net .n * (net .n * s) → ⊥) → Checked.Refused 3 ≡ readyOf net costs ways waits
-  unfolding okLengths refusalBy
-  ways-long same other =
-      simp (eq-eqb (refusalOf net) 0 right, eq-eqb costs (rowsAll net) (same ∙ rows-are), ne-eqb ways (rowsAll net) (λ (e : ways ≡ rowsAll net). other (e ∙ sym rows-are)))
+  lengths-are : long ≡ okLengths net costs ways waits
+  unfolding okLengths
+  lengths-are = ap (λ (k : ℕ). eqb costs k && (eqb ways k && eqb waits k)) rows-are
 
-  pub waits-long : costs ≡ net .n * (net .n * s) → ways ≡ net .n * (net .n * s) → (waits ≡ net .n * (net .n * s) → ⊥) → Checked.Refused 3 ≡ readyOf net costs ways waits
-  unfolding okLengths refusalBy
-  waits-long same alike other =
-      simp (eq-eqb (refusalOf net) 0 right, eq-eqb costs (rowsAll net) (same ∙ rows-are), eq-eqb ways (rowsAll net) (alike ∙ rows-are), ne-eqb waits (rowsAll net) (λ (e : waits ≡ rowsAll net). other (e ∙ sym rows-are)))
+  pub not-long : long ≡ false → Checked.Refused 3 ≡ readyOf net costs ways waits
+  unfolding refusalBy
+  not-long short = simp (eq-eqb (refusalOf net) 0 right, sym lengths-are ∙ short)
 
-  pub all-long : costs ≡ net .n * (net .n * s) → ways ≡ net .n * (net .n * s) → waits ≡ net .n * (net .n * s) → Checked.Stacks s ≡ readyOf net costs ways waits
-  unfolding okLengths refusalBy
-  all-long same alike too =
-      simp (eq-eqb (refusalOf net) 0 right, eq-eqb costs (rowsAll net) (same ∙ rows-are), eq-eqb ways (rowsAll net) (alike ∙ rows-are), eq-eqb waits (rowsAll net) (too ∙ rows-are))
-      (ap Checked.Stacks (checked-valid net s found .1))
+  pub all-long : long ≡ true → Checked.Stacks s ≡ readyOf net costs ways waits
+  unfolding refusalBy
+  all-long good = simp (eq-eqb (refusalOf net) 0 right, sym lengths-are ∙ good) (ap Checked.Stacks (checked-valid net s found .1))
 
-pub not-ready : (net : Network) (costs ways waits r : ℕ) → checkedOf net ≡ Checked.Refused r → Checked.Refused r ≡ readyOf net costs ways waits
+pub not-ready : (net : Network) (costs ways waits r : ℕ) → checkedOf net ≡ Checked.Refused r → checkedOf net ≡ readyOf net costs ways waits
 unfolding refusalBy
 not-ready net costs ways waits r found =
     let a = checked-refused net r found in
-    simp (ne-eqb (refusalOf net) 0 (λ (e : refusalOf net ≡ 0). omega (arith, a .0, a .1))) (ap Checked.Refused (sym (a .0)))
+    found ∙ simp (ne-eqb (refusalOf net) 0 (λ (e : refusalOf net ≡ 0). omega (arith, a .0, a .1))) (ap Checked.Refused (sym (a .0)))
 
 -- n, S and the rows are small enough to be worked out
 pub record Small (net : Network) (s : ℕ) : Type 0 where

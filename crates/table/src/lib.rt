@@ -54,7 +54,7 @@ pub fn count(
         r ≡ countAnswer (networkOf n p h (now (links .entry)) (now (functions .entry))) (tableOf (now (cost .entry)) (now (way .entry)) (now (waiting .entry)))
         ⌝ }
 {
-    match ready(
+    let Checked::Refused(refusal) = ready(
         n,
         p,
         h,
@@ -63,10 +63,10 @@ pub fn count(
         cost.len(),
         way.len(),
         waiting.len(),
-    ) {
-        Checked::Stacks(stacks) => Counted::Messages(words::ones_in(waiting)),
-        Checked::Refused(refusal) => Counted::Refused(refusal),
-    }
+    ) else {
+        return Counted::Messages(words::ones_in(waiting));
+    };
+    Counted::Refused(refusal)
 }
 
 // The first message that waits, by node, then row, then lowest bit.

@@ -17,20 +17,13 @@ pub fn ready(
 ) -> Checked
     ensures { λ r. ⌜ r ≡ readyOf (networkOf n p h (now (links .entry)) (now (functions .entry))) costs ways waits ⌝ }
 {
-    match network::check(n, p, h, links, functions) {
-        Checked::Stacks(stacks) => {
-            let rows = n * (n * stacks);
-            if costs != rows {
-                return Checked::Refused(3);
-            }
-            if ways != rows {
-                return Checked::Refused(3);
-            }
-            if waits != rows {
-                return Checked::Refused(3);
-            }
-            Checked::Stacks(stacks)
-        }
-        Checked::Refused(refusal) => Checked::Refused(refusal),
+    let checked = network::check(n, p, h, links, functions);
+    let Checked::Stacks(stacks) = checked else {
+        return checked;
+    };
+    let rows = n * (n * stacks);
+    if (costs == rows) & ((ways == rows) & (waits == rows)) {
+        return Checked::Stacks(stacks);
     }
+    Checked::Refused(3)
 }

@@ -14,21 +14,21 @@ use Rattle.table.proofs.count.Tie as tie
 ready-requires : tie.Need-ready-requires
 ready-requires c κs = search needs
 
-enum-known-stacks : tie.Need-enum-known-stacks
-enum-known-stacks c = search needs
+enum-known-refusal : tie.Need-enum-known-refusal
+enum-known-refusal c = search needs
+
+enum-told : tie.Need-enum-told
+enum-told c = search needs
 
 ones-in-requires : tie.Need-ones-in-requires
 ones-in-requires c κs = search needs
 
-enum-known-refusal : tie.Need-enum-known-refusal
-enum-known-refusal c = search needs
-
 returns : tie.Need-returns
 returns c =
-    let a = c .before .before .before .before .before .before .before .before .before .before .args in
-    let r = is-ready (networkOf (a .n) (a .p) (a .h) (now (a .links)) (now (a .functions))) (tableOf (now (a .cost)) (now (a .way)) (now (a .waiting))) (c .before .before .stacks .given .0 .0) (sym (c .before .before .before .before .ready .ensures) ∙ c .before .before .stacks .given .1) in
-    ap Counted.Messages (c .ones-in .ensures ∙ count-few (now (a .waiting)) (omega (arith, rows-few (networkOf (a .n) (a .p) (a .h) (now (a .links)) (now (a .functions))) (tableOf (now (a .cost)) (now (a .way)) (now (a .waiting))) (c .before .before .stacks .given .0 .0) r)))
-    ∙ sym (begun (networkOf (a .n) (a .p) (a .h) (now (a .links)) (now (a .functions))) (tableOf (now (a .cost)) (now (a .way)) (now (a .waiting))) (c .before .before .stacks .given .0 .0) r _ _)
+    let a = c .before .before .before .before .before .before .before .before .before .args in
+    let r = is-ready (networkOf (a .n) (a .p) (a .h) (now (a .links)) (now (a .functions))) (tableOf (now (a .cost)) (now (a .way)) (now (a .waiting))) (c .before .enum-told .given .0 .0) (sym (c .before .before .before .ready .ensures) ∙ c .before .enum-told .given .1) in
+    ap Counted.Messages (c .ones-in .ensures ∙ count-few (now (a .waiting)) (omega (arith, rows-few (networkOf (a .n) (a .p) (a .h) (now (a .links)) (now (a .functions))) (tableOf (now (a .cost)) (now (a .way)) (now (a .waiting))) (c .before .enum-told .given .0 .0) r)))
+    ∙ sym (begun (networkOf (a .n) (a .p) (a .h) (now (a .links)) (now (a .functions))) (tableOf (now (a .cost)) (now (a .way)) (now (a .waiting))) (c .before .enum-told .given .0 .0) r _ _)
 
 returns-2 : tie.Need-returns-2
 returns-2 c =
@@ -39,10 +39,4 @@ returns-2 c =
 pub count-spec : {M : Type 1} → statement M
 count-spec =
     tie.close
-    (tie.spec
-    ready-requires
-    enum-known-stacks
-    ones-in-requires
-    enum-known-refusal
-    returns
-    returns-2)
+    (tie.spec ready-requires enum-known-refusal enum-told ones-in-requires returns returns-2)
