@@ -203,5 +203,5 @@ fn main() {
         1000,
     );
     print_rows(&cost, &way);
-    print_messages(table::count(4, 2, 2, &links, &functions, &cost, &way, &waiting));
+    print_messages(waiting::count(4, 2, 2, &links, &functions, &cost, &way, &waiting));
 }

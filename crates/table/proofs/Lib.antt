@@ -4,7 +4,6 @@ pub mod Refusals
 pub mod Places
 pub mod Firsts
 pub mod Walk
-pub mod Found
 pub mod Rows
 pub mod Deliveries
 pub mod Order

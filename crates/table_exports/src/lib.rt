@@ -48,7 +48,7 @@ pub extern "C" fn bannogwy_count(
         r ≡ packCounted (countAnswer (networkOf n p h (now (links .entry)) (now (functions .entry))) (tableOf (now (cost .entry)) (now (way .entry)) (now (waiting .entry))))
         ⌝ }
 {
-    packed_counted(table::count(n, p, h, links, functions, cost, way, waiting))
+    packed_counted(waiting::count(n, p, h, links, functions, cost, way, waiting))
 }
 
 // The first message that waits.
@@ -68,5 +68,5 @@ pub extern "C" fn bannogwy_first_waiting(
         r ≡ packFirst (firstAnswer (networkOf n p h (now (links .entry)) (now (functions .entry))) (tableOf (now (cost .entry)) (now (way .entry)) (now (waiting .entry))))
         ⌝ }
 {
-    packed_first(table::first_waiting(n, p, h, links, functions, cost, way, waiting))
+    packed_first(waiting::first_waiting(n, p, h, links, functions, cost, way, waiting))
 }

@@ -9,10 +9,10 @@ use borrow.Author.Count.{below-more}
 use Rattle.bits.specs.Bits.{has}
 use Rattle.bits.proofs.Laws.{no-bit}
 use Rattle.words.specs.declared.Found.the-variants.{Nowhere}
 use Rattle.table.proofs.Firsts.{Ahead}
 use Rattle.table.proofs.Walk.{AtRow, at-start, at-row, row-inside, row-passed, bit-found, node-passed, all-passed}
-use Rattle.table.proofs.search.search.Statement.{statement}
-use Rattle.table.proofs.search.search.Tie as tie
+use Rattle.waiting.proofs.search.search.Statement.{statement}
+use Rattle.waiting.proofs.search.search.Tie as tie
 
 abbrev Inv-loop2 : tie.InvT-loop2
 Inv-loop2 nodes rows waiting found₀ node row at word bit₀ found bit = (found ≡ Nowhere) × (bit ≤ 32) × ((k : ℕ) → k < bit → has word k ≡ false)

@@ -1,15 +1,15 @@
--- `table::count` meets its contract.
+-- `waiting::count` meets its contract.
 use mathlib.Core.Path.{sym, ap, _∙_}
 use denote.Ref.{now}
 use native.Mathlib.Omega.{arith}
 use borrow.Author.Needs.{needs}
 use Rattle.words.proofs.Search.{count-few}
 use Rattle.network.specs.Network.{networkOf}
 use Rattle.table.specs.Table.{tableOf}
 use Rattle.table.specs.declared.Counted.{Counted}
 use Rattle.table.proofs.Begins.{is-ready, is-refused, begun, stopped, rows-few}
-use Rattle.table.proofs.count.Statement.{statement}
-use Rattle.table.proofs.count.Tie as tie
+use Rattle.waiting.proofs.count.Statement.{statement}
+use Rattle.waiting.proofs.count.Tie as tie
 
 ready-requires : tie.Need-ready-requires
 ready-requires c κs = search needs

@@ -1,15 +1,15 @@
--- `table::first_waiting` meets its contract: a law for each thing that the search may find.
+-- `waiting::first_waiting` meets its contract: a law for each thing that the search may find.
 use mathlib.Core.Path.{sym, _∙_}
 use denote.Ref.{now}
 use native.Mathlib.Nat.{mod-lt}
 use native.Mathlib.Omega.{arith}
 use borrow.Author.Needs.{needs}
 use Rattle.network.specs.Network.{networkOf}
 use Rattle.table.specs.Table.{tableOf}
 use Rattle.table.proofs.Begins.{Ready, is-ready, is-refused, divides, rows-few, rows-at-hand}
-use Rattle.table.proofs.Found.{first-message, first-quiet, first-refused}
-use Rattle.table.proofs.first_waiting.Statement.{statement}
-use Rattle.table.proofs.first_waiting.Tie as tie
+use Rattle.waiting.proofs.Found.{first-message, first-quiet, first-refused}
+use Rattle.waiting.proofs.first_waiting.Statement.{statement}
+use Rattle.waiting.proofs.first_waiting.Tie as tie
 
 prepared : (c : tie.After-known-told) → Ready (networkOf (c .before .before .before .before .before .before .before .before .before .args .n) (c .before .before .before .before .before .before .before .before .before .args .p) (c .before .before .before .before .before .before .before .before .before .args .h) (now (c .before .before .before .before .before .before .before .before .before .args .links)) (now (c .before .before .before .before .before .before .before .before .before .args .functions)))
     (tableOf (now (c .before .before .before .before .before .before .before .before .before .args .cost)) (now (c .before .before .before .before .before .before .before .before .before .args .way)) (now (c .before .before .before .before .before .before .before .before .before .args .waiting))) (c .before .stacks .given .0 .0)

@@ -1,0 +1,2 @@
+-- The laws of crate waiting.
+pub mod Found
