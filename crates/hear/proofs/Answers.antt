@@ -1,10 +1,13 @@
 -- What `hear` answers where it refuses and where it does not, over plain variables.
 use Prim.Native.Nat.{ℕ, _+_, _*_, _≤_, _<_}
+use native.Mathlib.Nat.{mul-le-mul}
 use native.Mathlib.Omega.{arith}
 use mathlib.Core.Path.{_≡_, refl, sym, _∙_}
-use mathlib.Core.Bool.{Bool, true, false, _&&_, and-assoc}
+use mathlib.Core.Bool.{Bool, true, false, _&&_, and-assoc, and-false}
 use lib.ListN.{length}
 use lib.Dec.{leb, ltb, eqb}
+use mir.Syntax.{w64}
+use mir.Val.{Fits}
 use borrow.Author.Tests.{leb-true, ltb-true, eqb-true, ne-eqb}
 use Rattle.lists.specs.Lists.{unless}
 use Rattle.lists.proofs.Tests.{both}
@@ -40,6 +43,15 @@ numbers p most sender destination number e =
       within = leb-true number most (x .1);
     }
 
+module _ {p most sender destination number : ℕ} (n : Numbers p most sender destination number) where
+  pub next-fits : Fits w64 (destination + 1)
+  next-fits = omega (arith, n .known)
+
+  pub rows-fit : Fits w64 ((destination + 1) * most)
+  rows-fit =
+      let wide = mul-le-mul {n₁ = destination + 1} {m₁ = most} {n₂ = 32} {m₂ = 16384} (omega (arith, n .known)) (n .bounded) in
+      omega arith
+
 -- the rows are long enough, and the cost is no more than the ceiling
 pub record Lengths (most destination cost costs ways waiting : ℕ) : Type 0 where
   pub wide : (destination + 1) * most ≤ costs
@@ -47,15 +59,43 @@ pub record Lengths (most destination cost costs ways waiting : ℕ) : Type 0 whe
   pub waiting-long : waiting ≡ costs
   pub priced : cost ≤ ceiling
 
--- the code's tests of the numbers and of the lengths
-pub numbers-same : (p most sender destination number : ℕ)
-    → ((((((leb 1 p && leb p 8) && leb most 16384) && ltb sender 32) && ltb destination 32) && leb 1 number) && leb number most)
-    ≡ goodNumbers p most sender destination number
-numbers-same p most sender destination number = simp and-assoc
+-- ---- what `refusal_of` answers at each of its returns
+module _ (p most sender destination number cost costs ways waiting : ℕ) where
+  -- the code's tests of the numbers and of the lengths
+  abbrev pub testNumbers : Bool
+  testNumbers = (((((leb 1 p && leb p 8) && leb most 16384) && ltb sender 32) && ltb destination 32) && leb 1 number) && leb number most
 
-pub lengths-same : (most destination costs ways waiting : ℕ)
-    → ((leb ((destination + 1) * most) costs && eqb ways costs) && eqb waiting costs) ≡ goodLengths most destination costs ways waiting
-lengths-same most destination costs ways waiting = simp and-assoc
+  abbrev pub testLengths : Bool
+  testLengths = (leb ((destination + 1) * most) costs && eqb ways costs) && eqb waiting costs
+
+  numbers-same : testNumbers ≡ goodNumbers p most sender destination number
+  numbers-same = simp and-assoc
+
+  lengths-same : testLengths ≡ goodLengths most destination costs ways waiting
+  lengths-same = simp and-assoc
+
+  pub numbered : testNumbers ≡ true → Numbers p most sender destination number
+  numbered e = numbers p most sender destination number (sym numbers-same ∙ e)
+
+  abbrev answer : ℕ
+  answer = refusedBy p most sender destination number cost costs ways waiting
+
+  pub wrong-numbers : testNumbers ≡ false → 4 ≡ answer
+  unfolding okHearing
+  wrong-numbers e = simp (sym numbers-same ∙ e)
+
+  pub wrong-lengths : testLengths ≡ false → 4 ≡ answer
+  unfolding okHearing
+  wrong-lengths e = simp (sym lengths-same ∙ e, and-false)
+
+  module _ (e : testNumbers ≡ true) (e′ : testLengths ≡ true) where
+    pub dear : leb cost ceiling ≡ false → 7 ≡ answer
+    unfolding okHearing
+    dear e″ = simp (sym numbers-same ∙ e, sym lengths-same ∙ e′, e″)
+
+    pub cheap : leb cost ceiling ≡ true → 0 ≡ answer
+    unfolding okHearing
+    cheap e″ = simp (sym numbers-same ∙ e, sym lengths-same ∙ e′, e″)
 
 no-refusal : (a b : Bool) → unless a 4 (unless b 7 0) ≡ 0 → (a ≡ true) × (b ≡ true)
 no-refusal true true e = (refl, refl)

@@ -1,11 +1,15 @@
--- What `offer_of` answers at each of its returns, over plain variables.
+-- What `offer_of` answers at each of its returns, and that no number wraps, over plain variables.
 use Prim.Native.Nat.{ℕ, _+_, _-_, _*_, _≤_, _<_}
-use mathlib.Core.Path.{_≡_, sym, ap₂, _∙_}
+use native.Mathlib.Nat.{mul-le-mul}
+use native.Mathlib.Omega.{arith}
+use mathlib.Core.Path.{_≡_, sym, ap, _∙_}
 use mathlib.Core.Bool.{Bool, true, false, _&&_, and-assoc}
 use lib.Dec.{leb, ltb}
+use mir.Syntax.{w16, w32, w64}
+use mir.Val.{Fits}
 use borrow.Author.Tests.{ltb-true, leb-true}
 use Rattle.lists.proofs.Tests.{both}
-use Rattle.hear.specs.Steps.{functionOf, placeOf, offerOf}
+use Rattle.hear.specs.Steps.{placeOf, offerOf, Priced}
 use Rattle.hear.specs.declared.Candidate.{Candidate}
 
 module _ (most word : ℕ) (c : Candidate) where
@@ -35,8 +39,42 @@ module _ (most word : ℕ) (c : Candidate) where
     unfolding offerOf
     none e = simp (sym same ∙ e)
 
-    pub made : tested ≡ true → (total way : ℕ) → total ≡ cost + link + (word - 1) → way ≡ 256 * sender + functionOf c
-        → record { place = placeOf most destination (c .number); cost = total; way = way } ≡ offerOf most sender destination cost link word c
+    pub made : tested ≡ true
+        → record { place = placeOf most destination (c .number); cost = cost + link + (word - 1); way = 256 * sender + 64 * c .kind + 8 * c .from + c .to }
+        ≡ offerOf most sender destination cost link word c
     unfolding offerOf
-    made e total way costs ways =
-        simp (sym same ∙ e) (ap₂ (λ (x y : ℕ). record { place = placeOf most destination (c .number); cost = x; way = y }) costs ways)
+    made e =
+        simp (sym same ∙ e)
+        (ap (λ (y : ℕ). record { place = placeOf most destination (c .number); cost = cost + link + (word - 1); way = y }) (omega arith))
+
+-- the numbers on the way to the place, to the cost and to the way
+pub record OfferFits (most sender destination cost link word : ℕ) (c : Candidate) : Type 0 where
+  pub rows : Fits w64 (destination * most)
+  pub place : c .number ≤ most → Fits w64 (destination * most + (c .number - 1))
+  pub linked : Fits w32 (cost + link)
+  pub costs : Fits w32 (cost + link + (word - 1))
+  pub sent : Fits w64 (256 * sender)
+  pub kind : Fits w64 (64 * c .kind)
+  pub kinds : Fits w64 (256 * sender + 64 * c .kind)
+  pub from : Fits w64 (8 * c .from)
+  pub froms : Fits w64 (256 * sender + 64 * c .kind + 8 * c .from)
+  pub tos : Fits w64 (256 * sender + 64 * c .kind + 8 * c .from + c .to)
+  pub way : Fits w16 (256 * sender + 64 * c .kind + 8 * c .from + c .to)
+
+pub offer-fits : (most sender destination cost link word : ℕ) (c : Candidate) → Priced most sender destination cost c → Fits w16 link → Fits w16 word
+    → OfferFits most sender destination cost link word c
+offer-fits most sender destination cost link word c q l w =
+    let rows = mul-le-mul {n₁ = destination} {m₁ = most} {n₂ = 32} {m₂ = 16384} (omega arith) (q .bounded) in
+    record {
+      rows = omega arith;
+      place = λ low. omega arith;
+      linked = omega arith;
+      costs = omega arith;
+      sent = omega arith;
+      kind = omega arith;
+      kinds = omega arith;
+      from = omega arith;
+      froms = omega arith;
+      tos = omega arith;
+      way = omega arith;
+    }
