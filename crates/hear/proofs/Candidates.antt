@@ -68,6 +68,9 @@ below-number p n under e = omega (arith, mul-div-le (n - 1) p, ap (λ (x : ℕ).
 pub above-number : (p n : ℕ) → p ≤ 8 → p * n ≤ 8 * n
 above-number p n few = mul-le-mul-right n few
 
+pub past : (p i : ℕ) → p < i → 1 ≤ i - p
+past p i h = omega arith
+
 -- the i-th candidate, by its parts
 pub record Candid (p number i : ℕ) (c : Candidate) : Type 0 where
   pub kinds : c .kind < 3

@@ -1,10 +1,12 @@
 -- How far the loop of `hear` has come, over plain variables: where it starts, a turn that changes nothing, a turn that a row takes, where it ends.
-use Prim.Native.Nat.{ℕ, _+_, _*_, _≤_, _<_}
+use Prim.Native.Nat.{ℕ, _+_, _-_, _*_, _≤_, _<_}
 use native.Mathlib.Nat.{mul-le-mul}
 use native.Mathlib.Omega.{arith}
 use mathlib.Core.Path.{_≡_, sym, ap, _∙_, subst}
 use mathlib.Core.List.{List, []}
 use lib.ListN.{length, getD, set}
+use mir.Syntax.{w64}
+use mir.Val.{Fits}
 use Rattle.bits.specs.Bits.{withAll}
 use Rattle.hear.specs.Hearing.{Gateway, Message, Rows}
 use Rattle.hear.specs.Answers.{wordsOf, gatewayOf, rowsOf, Hears}
@@ -75,10 +77,27 @@ module _ {g : Gateway} {m : Message} {r s : Rows} {i count : ℕ} {o : Offer} (q
       subst (λ (x : Offer). x .place < long) (sym (q .is)) (offer-inside g m i long (omega (arith, n .numbered, n .within)) wide)
 
   -- the offer's place is one in each list
-  pub near : o .place < 524288
+  near : o .place < 524288
   near =
       let n = q .heeds .passes .numbers-good in
       within 524288 (mul-le-mul {n₁ = m .destination + 1} {m₁ = g .most} {n₂ = 32} {m₂ = 16384} (omega (arith, n .known)) (n .bounded))
+
+  -- no number of a turn wraps
+  pub near-4 : Fits w64 (o .place * 4)
+  near-4 = omega (arith, near)
+
+  pub near-2 : Fits w64 (o .place * 2)
+  near-2 = omega (arith, near)
+
+  pub next-fits : Fits w64 (i + 1)
+  next-fits = omega (arith, q .low, q .heeds .passes .numbers-good .few)
+
+  pub counts-fit : Fits w64 (count + 1)
+  counts-fit = omega (arith, q .heeds .few, q .low, q .heeds .passes .numbers-good .few)
+
+  -- and fewer turns are left
+  pub nearer : 2 * g .p + 1 - (i + 1) < 2 * g .p + 1 - i
+  nearer = omega (arith, q .low)
 
   pub inside : o .place < length (s .costs)
   inside = within (length (s .costs)) (omega (arith, q .heeds .passes .lengths-good .wide, costs-long g m r s i count (q .heeds)))

@@ -1,7 +1,6 @@
 -- `hear::candidate_of` meets its contract: a law for each kind of candidate.
 use native.Mathlib.Omega.{arith}
-use borrow.Author.Needs.{needs}
-use Rattle.hear.proofs.Candidates.{converts-by, wraps-by, none-by, unwraps-by, below-number, above-number}
+use Rattle.hear.proofs.Candidates.{converts-by, wraps-by, none-by, unwraps-by, below-number, above-number, past}
 use Rattle.hear.proofs.candidate_of.Statement.{statement}
 use Rattle.hear.proofs.candidate_of.Tie as tie
 
@@ -24,7 +23,7 @@ returns : tie.Need-returns
 returns c = converts-by _ _ _ _ _ (c .before .pre) (c .if1 .taken)
 
 sub-b : tie.Need-sub-b
-sub-b c = search needs
+sub-b c = past _ _ (c .if2 .taken)
 
 mul-t11 : tie.Need-mul-t11
 mul-t11 c =
@@ -48,7 +47,7 @@ returns-3 : tie.Need-returns-3
 returns-3 c = none-by _ _ _ _ _ (c .before .before .before .pre) (c .before .before .if1 .left) (c .before .if2 .left) (c .if3 .taken)
 
 rem-t15 : tie.Need-rem-t15
-rem-t15 c = search needs
+rem-t15 c = c .before .before .before .pre .turns .some
 
 returns-4 : tie.Need-returns-4
 returns-4 c = wraps-by _ _ _ _ _ (c .before .before .before .pre) (c .before .before .if1 .left) (c .before .if2 .left)

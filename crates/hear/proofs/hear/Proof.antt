@@ -5,11 +5,10 @@ use mathlib.Core.List.{[], _∷_}
 use native.Mathlib.Omega.{arith}
 use denote.Ref.{now}
 use lib.ListN.{getD}
-use borrow.Author.Needs.{needs}
 use Rattle.hear.specs.Answers.{gatewayOf, messageOf, rowsOf}
 use Rattle.hear.specs.Steps.{Turn}
 use Rattle.hear.proofs.Answers.{refuses}
-use Rattle.hear.proofs.Loop.{Heeds, starts, ends, costs-long, ways-long, waiting-long, its-turn, Offers, near, inside, inside-ways, inside-waiting, stays, gains, Small, small, offered}
+use Rattle.hear.proofs.Loop.{Heeds, starts, ends, costs-long, ways-long, waiting-long, its-turn, Offers, near-4, near-2, next-fits, counts-fit, nearer, inside, inside-ways, inside-waiting, stays, gains, Small, small, offered}
 use Rattle.hear.proofs.hear.Statement.{statement}
 use Rattle.hear.proofs.hear.Tie as tie
 
@@ -48,7 +47,7 @@ offers c =
     }
 
 refusal-of-requires : tie.Need-refusal-of-requires Inv-loop μ-loop
-refusal-of-requires c κs = search needs
+refusal-of-requires c κs = tt
 
 returns : tie.Need-returns Inv-loop μ-loop
 returns c =
@@ -120,57 +119,57 @@ offer-of-requires c κs =
     }
 
 add-i : tie.Need-add-i Inv-loop μ-loop
-add-i c = omega (arith, offers c .low, offers c .heeds .passes .numbers-good .few)
+add-i c = next-fits (offers c)
 
 mul-if2 : tie.Need-mul-if2 Inv-loop μ-loop
-mul-if2 c = omega (arith, near (offers c))
+mul-if2 c = near-4 (offers c)
 
 slice-read-if2 : tie.Need-slice-read-if2 Inv-loop μ-loop
 slice-read-if2 c = inside (offers (c .before))
 
 loop-less : tie.Need-loop-less Inv-loop μ-loop
-loop-less c = omega (arith, offers (c .before .before .before) .low)
+loop-less c = nearer (offers (c .before .before .before))
 
 loop-again : tie.Need-loop-again Inv-loop μ-loop
 loop-again c = stays (offers (c .before .before .before)) (c .if2 .taken)
 
 mul-costs : tie.Need-mul-costs Inv-loop μ-loop
-mul-costs c = omega (arith, near (offers (c .before .before .before)))
+mul-costs c = near-4 (offers (c .before .before .before))
 
 slice-write-costs : tie.Need-slice-write-costs Inv-loop μ-loop
 slice-write-costs c = inside (offers (c .before .before .before))
 
 mul-ways : tie.Need-mul-ways Inv-loop μ-loop
-mul-ways c = omega (arith, near (offers (c .before .before .before)))
+mul-ways c = near-2 (offers (c .before .before .before))
 
 slice-write-ways : tie.Need-slice-write-ways Inv-loop μ-loop
 slice-write-ways c = inside-ways (offers (c .before .before .before))
 
 mul-with-all : tie.Need-mul-with-all Inv-loop μ-loop
-mul-with-all c = omega (arith, near (offers (c .before .before .before)))
+mul-with-all c = near-4 (offers (c .before .before .before))
 
 slice-read-with-all : tie.Need-slice-read-with-all Inv-loop μ-loop
 slice-read-with-all c = inside-waiting (offers (c .before .before .before .before))
 
 with-all-requires : tie.Need-with-all-requires Inv-loop μ-loop
-with-all-requires c κs = search needs
+with-all-requires c κs = tt
 
 mul-waiting : tie.Need-mul-waiting Inv-loop μ-loop
-mul-waiting c = omega (arith, near (offers (c .before .before .before .before .before)))
+mul-waiting c = near-4 (offers (c .before .before .before .before .before))
 
 slice-write-waiting : tie.Need-slice-write-waiting Inv-loop μ-loop
 slice-write-waiting c = inside-waiting (offers (c .before .before .before .before .before))
 
-add-count : tie.Need-add-count Inv-loop μ-loop
-add-count c = omega (arith, offers (c .before .before .before .before .before) .heeds .few, offers (c .before .before .before .before .before) .low, offers (c .before .before .before .before .before) .heeds .passes .numbers-good .few)
-
 loop-less-2 : tie.Need-loop-less-2 Inv-loop μ-loop
-loop-less-2 c = omega (arith, offers (c .before .before .before .before .before) .low)
+loop-less-2 c = nearer (offers (c .before .before .before .before .before))
 
 loop-again-2 : tie.Need-loop-again-2 Inv-loop μ-loop
 loop-again-2 c =
     gains (offers (c .before .before .before .before .before)) (c .with-all .result) (c .with-all .ensures) (c .before .before .if2 .left)
-    (omega (arith, c .before .before .before .before .slice-known4 .given (c .before .before .before .before .before .offer-of .result .place)))
+    (c .before .before .before .before .slice-known4 .given (c .before .before .before .before .before .offer-of .result .place) .fits)
+
+add-count : tie.Need-add-count Inv-loop μ-loop
+add-count c = counts-fit (offers (c .before .before .before .before .before))
 
 same-length : tie.Need-same-length Inv-loop μ-loop
 same-length c = costs-long _ _ _ _ _ _ (c .before .loop .inv)
