@@ -6,9 +6,11 @@ use mathlib.Core.Path.{_≡_, refl, sym, ap, _∙_}
 use mathlib.Core.List.{List}
 use mathlib.Core.Bool.{Bool, true, false, cond, _&&_}
 use lib.Arith.{digits-lt}
-use lib.ListN.{length, getD, drop}
+use lib.ListN.{length, getD, set, drop, length-set, length-take, length-drop}
 use lib.Seq.{getD-take, getD-drop}
 use lib.Dec.{leb, ltb, eqb}
+use mir.Syntax.{w64}
+use mir.Val.{Fits}
 use borrow.Author.Tests.{ltb-true, leb-true, eqb-true, lt-ltb, le-leb, lt-leb}
 use borrow.Rule.Slice.PartMut.{midOf}
 use Rattle.lists.proofs.Tests.{both}
@@ -96,6 +98,50 @@ room n p s costs ways waits Q U D N z k =
   where
     part-within : (W : ℕ) → W < n → W * (n * s) + n * s ≤ n * (n * s)
     part-within W b = omega (arith, mul-le-mul-right (n * s) b, suc-mul W (n * s))
+
+-- the same in the shapes that `read_row` asks for
+pub record Reads (n s Q D N costs waits : ℕ) : Type 0 where
+  pub rows : Fits w64 (n * s)
+  pub start : Fits w64 (Q * (n * s))
+  pub end : Fits w64 (Q * (n * s) + n * s)
+  pub block : Fits w64 (D * s)
+  pub numbered : 1 ≤ N
+  pub row : Fits w64 (D * s + (N - 1))
+  pub place : Fits w64 (Q * (n * s) + (D * s + (N - 1)))
+  pub place-bytes : Fits w64 ((Q * (n * s) + (D * s + (N - 1))) * 4)
+  pub inside : Q * (n * s) + (D * s + (N - 1)) < waits
+  pub start-bytes : Fits w64 (Q * (n * s) * 4)
+  pub ends : Q * (n * s) + n * s ≤ costs
+  pub low : D * s + (N - 1) < Q * (n * s) + n * s - Q * (n * s)
+
+pub reads : (n p s costs ways waits Q U D N : ℕ) → okSizes n p s costs ways waits ≡ true → okMessageIn n s Q U D N ≡ true → Reads n s Q D N costs waits
+reads n p s costs ways waits Q U D N e g =
+    let z = sizes n p s costs ways waits e in
+    let r = room n p s costs ways waits Q U D N z (numbers n s Q U D N g) in
+    record {
+      rows = omega arith;
+      start = omega arith;
+      end = omega arith;
+      block = omega arith;
+      numbered = r .numbered;
+      row = omega arith;
+      place = omega arith;
+      place-bytes = omega arith;
+      inside = omega arith;
+      start-bytes = omega arith;
+      ends = omega arith;
+      low = omega arith;
+    }
+
+-- a part starts before it ends, and what its start and its length come to
+pub onward : (from k : ℕ) → from ≤ from + k
+onward from k = omega arith
+
+pub length-of : (from k : ℕ) → from + k - from ≡ k
+length-of from k = omega arith
+
+pub in-part : (xs : List ℕ) (from k i : ℕ) → from + k ≤ length xs → i < from + k - from → i < length (midOf from (from + k - from) xs)
+in-part xs from k i ends low = simp (length-take, length-drop) (omega arith)
 
 -- an element of a part, read in the whole
 pub in-whole : (xs : List ℕ) (from k i : ℕ) → i < k → getD (midOf from k xs) i 0 ≡ getD xs (from + i) 0
@@ -207,22 +253,31 @@ module _ (n p s link : ℕ) (t : Table) (Q U D N : ℕ) where
 
 -- ---- where they all hold: the sums fit, the row is in the table, and so is the receiver's part
 pub record Lends (n s U i costs ways waits : ℕ) : Type 0 where
-  pub all : n * (n * s) ≤ 16777216
-  pub hears : U * (n * s) + n * s ≤ n * (n * s)
-  pub inside : i < n * (n * s)
-  pub costs-are : costs ≡ n * (n * s)
-  pub ways-are : ways ≡ n * (n * s)
-  pub waits-are : waits ≡ n * (n * s)
+  pub place-bytes : Fits w64 (i * 4)
+  pub inside : i < waits
+  pub rows : Fits w64 (n * s)
+  pub from : Fits w64 (U * (n * s))
+  pub to : Fits w64 (U * (n * s) + n * s)
+  pub from-4 : Fits w64 (U * (n * s) * 4)
+  pub from-2 : Fits w64 (U * (n * s) * 2)
+  pub costs-end : U * (n * s) + n * s ≤ costs
+  pub ways-end : U * (n * s) + n * s ≤ ways
+  pub waits-end : (xs : List ℕ) (word : ℕ) → length xs ≡ waits → U * (n * s) + n * s ≤ length (set xs i word)
 
 pub lends : (n p s link : ℕ) (t : Table) (Q U D N i c : ℕ) → Passed n p s link t Q U D N i c → Lends n s U i (length (t .cost)) (length (t .way)) (length (t .waiting))
 lends n p s link t Q U D N i c x =
     let z = x .sized in
     let r = room n p s (length (t .cost)) (length (t .way)) (length (t .waiting)) Q U D N z (x .numbered) in
+    let there : i < n * (n * s) = omega (arith, r .sends, r .inner, x .place-is, place-parts n s Q D N) in
     record {
-      all = r .all;
-      hears = r .hears;
-      inside = omega (arith, r .sends, r .inner, x .place-is, place-parts n s Q D N);
-      costs-are = z .costs-are;
-      ways-are = z .ways-are;
-      waits-are = z .waits-are;
+      place-bytes = omega (arith, r .all);
+      inside = omega (arith, z .waits-are);
+      rows = omega (arith, r .each);
+      from = omega (arith, r .hears, r .all);
+      to = omega (arith, r .hears, r .all);
+      from-4 = omega (arith, r .hears, r .all);
+      from-2 = omega (arith, r .hears, r .all);
+      costs-end = omega (arith, r .hears, z .costs-are);
+      ways-end = omega (arith, r .hears, z .ways-are);
+      waits-end = λ xs word e. omega (arith, r .hears, z .waits-are, e, length-set xs i word);
     }

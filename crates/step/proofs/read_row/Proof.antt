@@ -1,17 +1,15 @@
 -- `step::read_row` meets its contract: a law of proofs/Tests.antt for each return.
 use Prim.Native.Nat.{ℕ, _+_, _-_, _*_}
-use native.Mathlib.Omega.{arith}
 use mathlib.Core.Path.{_≡_, refl, sym, _∙_}
 use mathlib.Core.Bool.{true}
 use denote.Ref.{now}
-use lib.ListN.{length, getD, length-take, length-drop}
-use borrow.Author.Needs.{needs}
+use lib.ListN.{length, getD}
 use borrow.Author.Tests.{not-true, not-false}
 use Rattle.bits.specs.Bits.{has}
 use Rattle.table.specs.Table.{Table, tableOf}
 use Rattle.table.specs.Answers.{okMessageIn}
 use Rattle.step.specs.Step.{okSizes}
-use Rattle.step.proofs.Tests.{Sizes, sizes, numbers, Room, room, in-whole, bad-sizes, bad-numbers, not-waiting, too-dear, no-link, tells}
+use Rattle.step.proofs.Tests.{Reads, reads, onward, in-part, in-whole, bad-sizes, bad-numbers, not-waiting, too-dear, no-link, tells}
 use Rattle.step.proofs.read_row.Statement.{statement}
 use Rattle.step.proofs.read_row.Tie as tie
 
@@ -37,26 +35,20 @@ fit c = sym (c .before .good-sizes .ensures) ∙ not-false _ (c .if1 .left)
 good : (c : tie.Else2) → Good (c .before .before .before .before .before .before .before)
 good c = sym (c .before .good-numbers .ensures) ∙ not-false _ (c .if2 .left)
 
-lent : (s : tie.Start) → Fits s → let a = s .args in Sizes (a .n) (a .p) (a .stacks) (length (now (a .cost))) (length (now (a .way))) (length (now (a .waiting)))
-lent s e = let a = s .args in sizes (a .n) (a .p) (a .stacks) (length (now (a .cost))) (length (now (a .way))) (length (now (a .waiting))) e
-
-space : (s : tie.Start) → Fits s → Good s → let a = s .args in Room (a .n) (a .stacks) (a .sender) (a .receiver) (a .destination) (a .number)
-space s e g =
-    let a = s .args in
-    room (a .n) (a .p) (a .stacks) (length (now (a .cost))) (length (now (a .way))) (length (now (a .waiting))) (a .sender) (a .receiver) (a .destination) (a .number) (lent s e) (numbers (a .n) (a .stacks) (a .sender) (a .receiver) (a .destination) (a .number) g)
-
-fits-there : (c : tie.Else2) → let a = c .before .before .before .before .before .before .before .args in Room (a .n) (a .stacks) (a .sender) (a .receiver) (a .destination) (a .number)
-fits-there c = space (c .before .before .before .before .before .before .before) (fit (c .before .before)) (good c)
+fits-there : (c : tie.Else2) → let a = c .before .before .before .before .before .before .before .args in Reads (a .n) (a .stacks) (a .sender) (a .destination) (a .number) (length (now (a .cost))) (length (now (a .waiting)))
+fits-there c =
+    let a = c .before .before .before .before .before .before .before .args in
+    reads (a .n) (a .p) (a .stacks) (length (now (a .cost))) (length (now (a .way))) (length (now (a .waiting))) (a .sender) (a .receiver) (a .destination) (a .number) (fit (c .before .before)) (good c)
 
 -- what the sender's part says of the row
 told-is : (c : tie.After-read-cost) → c .read-cost .result ≡ getD (now (c .before .before .before .before .before .before .before .before .before .before .before .before .args .cost)) (here (c .before .before .before .before .before .before .before .before .before .before .before .before)) 0
 told-is c =
     let a = c .before .before .before .before .before .before .before .before .before .before .before .before .args in
     let rows = a .n * a .stacks in
-    c .read-cost .ensures ∙ in-whole (now (a .cost)) (a .sender * rows) (a .sender * rows + rows - a .sender * rows) (inner (c .before .before .before .before .before .before .before .before .before .before .before .before)) (omega (arith, fits-there (c .before .before .before .before .before)))
+    c .read-cost .ensures ∙ in-whole (now (a .cost)) (a .sender * rows) (a .sender * rows + rows - a .sender * rows) (inner (c .before .before .before .before .before .before .before .before .before .before .before .before)) (fits-there (c .before .before .before .before .before) .low)
 
 good-sizes-requires : tie.Need-good-sizes-requires
-good-sizes-requires c κs = search needs
+good-sizes-requires c κs = tt
 
 returns : tie.Need-returns
 returns c =
@@ -65,7 +57,7 @@ returns c =
     bad-sizes (a .n) (a .p) (a .stacks) (a .link) (tab s) (a .sender) (a .receiver) (a .destination) (a .number) (sym (c .before .good-sizes .ensures) ∙ not-true _ (c .if1 .taken))
 
 good-numbers-requires : tie.Need-good-numbers-requires
-good-numbers-requires c κs = search needs
+good-numbers-requires c κs = tt
 
 returns-2 : tie.Need-returns-2
 returns-2 c =
@@ -74,34 +66,34 @@ returns-2 c =
     bad-numbers (a .n) (a .p) (a .stacks) (a .link) (tab s) (a .sender) (a .receiver) (a .destination) (a .number) (fit (c .before .before)) (sym (c .before .good-numbers .ensures) ∙ not-true _ (c .if2 .taken))
 
 mul-rows : tie.Need-mul-rows
-mul-rows c = omega (arith, fits-there c)
+mul-rows c = fits-there c .rows
 
 mul-start : tie.Need-mul-start
-mul-start c = omega (arith, fits-there c)
+mul-start c = fits-there c .start
 
 add-end : tie.Need-add-end
-add-end c = omega (arith, fits-there c)
+add-end c = fits-there c .end
 
 mul-at : tie.Need-mul-at
-mul-at c = omega (arith, fits-there c)
+mul-at c = fits-there c .block
 
 sub-at : tie.Need-sub-at
 sub-at c = fits-there c .numbered
 
 add-at : tie.Need-add-at
-add-at c = omega (arith, fits-there c)
+add-at c = fits-there c .row
 
 add-place : tie.Need-add-place
-add-place c = omega (arith, fits-there c)
+add-place c = fits-there c .place
 
 mul-has : tie.Need-mul-has
-mul-has c = omega (arith, fits-there c)
+mul-has c = fits-there c .place-bytes
 
 shared-slice-read-has : tie.Need-shared-slice-read-has
-shared-slice-read-has c = omega (arith, fits-there (c .before), lent (c .before .before .before .before .before .before .before .before) (fit (c .before .before .before)) .waits-are)
+shared-slice-read-has c = fits-there (c .before) .inside
 
 has-requires : tie.Need-has-requires
-has-requires c κs = search needs
+has-requires c κs = tt
 
 returns-3 : tie.Need-returns-3
 returns-3 c =
@@ -110,19 +102,19 @@ returns-3 c =
     not-waiting (a .n) (a .p) (a .stacks) (a .link) (tab s) (a .sender) (a .receiver) (a .destination) (a .number) (fit (c .before .before .before .before .before)) (good (c .before .before .before)) (here s) refl (sym (c .before .has .ensures) ∙ not-true _ (c .if3 .taken))
 
 mul-read-cost : tie.Need-mul-read-cost
-mul-read-cost c = omega (arith, fits-there (c .before .before .before))
+mul-read-cost c = fits-there (c .before .before .before) .start-bytes
 
 sub-read-cost : tie.Need-sub-read-cost
-sub-read-cost c = search needs
+sub-read-cost c = onward _ _
 
 part-read-cost-start : tie.Need-part-read-cost-start
-part-read-cost-start c = search needs
+part-read-cost-start c = onward _ _
 
 part-read-cost-end : tie.Need-part-read-cost-end
-part-read-cost-end c = omega (arith, fits-there (c .before .before .before), lent (c .before .before .before .before .before .before .before .before .before .before) (fit (c .before .before .before .before .before)) .costs-are)
+part-read-cost-end c = fits-there (c .before .before .before) .ends
 
 read-cost-requires : tie.Need-read-cost-requires
-read-cost-requires c κs = simp (length-take, length-drop) (omega (arith, fits-there (c .before .before .before .before), lent (c .before .before .before .before .before .before .before .before .before .before .before) (fit (c .before .before .before .before .before .before)) .costs-are))
+read-cost-requires c κs = let f = fits-there (c .before .before .before .before) in in-part _ _ _ _ (f .ends) (f .low)
 
 -- the bit is set, of a place that lies behind the tests
 waits : (c : tie.Else3) → has (getD (now (c .before .before .before .before .before .before .before .before .before .before .args .waiting)) (here (c .before .before .before .before .before .before .before .before .before .before)) 0) (c .before .before .before .before .before .before .before .before .before .before .args .receiver) ≡ true
