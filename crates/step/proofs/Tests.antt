@@ -4,7 +4,7 @@ use native.Mathlib.Nat.{mul-le-mul, mul-le-mul-right, suc-mul}
 use native.Mathlib.Omega.{arith}
 use mathlib.Core.Path.{_≡_, refl, sym, ap, _∙_}
 use mathlib.Core.List.{List}
-use mathlib.Core.Bool.{Bool, true, false, cond, _&&_}
+use mathlib.Core.Bool.{Bool, true, false, cond, _&&_, and-assoc}
 use lib.Arith.{digits-lt}
 use lib.ListN.{length, getD, set, drop, length-set, length-take, length-drop}
 use lib.Seq.{getD-take, getD-drop}
@@ -51,6 +51,30 @@ sizes n p s costs ways waits e =
       ways-are = eqb-true ways (n * (n * s)) (g .0);
       waits-are = eqb-true waits (n * (n * s)) (g .1);
     }
+
+-- the code's tests of the sizes: first those that bound the rows, then those of the lengths
+module _ (n p s costs ways waits : ℕ) where
+  abbrev bounds : Bool
+  bounds = ((leb 1 p && leb p 8) && leb n 32) && leb s 16384
+
+  abbrev lengths : Bool
+  lengths = (eqb costs (n * (n * s)) && eqb ways (n * (n * s))) && eqb waits (n * (n * s))
+
+  pub sizes-by : (b : Bool) → bounds ≡ b → (b && lengths) ≡ okSizes n p s costs ways waits
+  unfolding okSizes
+  sizes-by b e = ap (λ (x : Bool). x && lengths) (sym e) ∙ simp and-assoc
+
+  pub rows-fit : bounds ≡ true → Fits w64 (n * s) × Fits w64 (n * (n * s))
+  rows-fit e =
+      let a = both ((leb 1 p && leb p 8) && leb n 32) (leb s 16384) e in
+      let nodes = leb-true n 32 (both (leb 1 p && leb p 8) (leb n 32) (a .0) .1) in
+      let each : n * s ≤ 524288 = omega (arith, mul-le-mul nodes (leb-true s 16384 (a .1))) in
+      (omega arith, omega (arith, mul-le-mul nodes each))
+
+-- and of the numbers
+pub numbers-same : (n s Q U D N : ℕ) → ((((ltb Q n && ltb U n) && ltb D n) && leb 1 N) && leb N s) ≡ okMessageIn n s Q U D N
+unfolding okMessageIn
+numbers-same n s Q U D N = simp and-assoc
 
 pub record Numbers (n s Q U D N : ℕ) : Type 0 where
   pub sends : Q < n

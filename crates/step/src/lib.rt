@@ -19,26 +19,11 @@ enum Told {
 fn good_sizes(n: usize, p: usize, stacks: usize, costs: usize, ways: usize, waits: usize) -> bool
     ensures { λ r. ⌜ r ≡ okSizes n p stacks costs ways waits ⌝ }
 {
-    if p < 1 {
-        return false;
-    }
-    if 8 < p {
-        return false;
-    }
-    if 32 < n {
-        return false;
-    }
-    if 16384 < stacks {
+    if !((1 <= p) & (p <= 8) & (n <= 32) & (stacks <= 16384)) {
         return false;
     }
     let rows = n * (n * stacks);
-    if costs != rows {
-        return false;
-    }
-    if ways != rows {
-        return false;
-    }
-    waits == rows
+    (costs == rows) & (ways == rows) & (waits == rows)
 }
 
 fn good_numbers(
@@ -51,19 +36,7 @@ fn good_numbers(
 ) -> bool
     ensures { λ r. ⌜ r ≡ okMessageIn n stacks sender receiver destination number ⌝ }
 {
-    if n <= sender {
-        return false;
-    }
-    if n <= receiver {
-        return false;
-    }
-    if n <= destination {
-        return false;
-    }
-    if number < 1 {
-        return false;
-    }
-    number <= stacks
+    (sender < n) & (receiver < n) & (destination < n) & (1 <= number) & (number <= stacks)
 }
 
 // A row's cost. It is lent the rows of one gateway, the sender, and no others.
