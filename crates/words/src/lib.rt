@@ -38,14 +38,15 @@ fn skipped(words: &[u32], from: usize, end: usize) -> usize
     requires { ⌜ end ≤ length (now words) ⌝ }
     ensures { λ r. ⌜ firstBetween r end (now (words .entry)) ≡ firstBetween from end (now (words .entry)) ⌝ }
 {
-    if end < 4 {
-        return from;
-    }
-    let stop = end - 3; // below it four words fit: i + 4 itself could wrap
+    let stop = end - smaller(end, 3); // below it four words fit: i + 4 itself could wrap
     let mut i = from;
     while i < stop {
-        if (words[i] | words[i + 1] | words[i + 2] | words[i + 3]) != 0 {
-            return i;
+        let mut any = words[i];
+        any |= words[i + 1];
+        any |= words[i + 2];
+        any |= words[i + 3];
+        if any != 0 {
+            break;
         }
         i += 4;
     }

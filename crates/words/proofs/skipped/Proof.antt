@@ -13,8 +13,8 @@ Inv-loop words from end stop i₀ i = firstBetween i end words ≡ firstBetween 
 abbrev μ-loop : tie.MeasureT-loop
 μ-loop words from end stop i₀ i = end - i
 
-returns : tie.Need-returns Inv-loop μ-loop
-returns c = refl
+smaller-requires : tie.Need-smaller-requires Inv-loop μ-loop
+smaller-requires c κs = tt
 
 sub-stop : tie.Need-sub-stop Inv-loop μ-loop
 sub-stop c = omega arith
@@ -22,41 +22,38 @@ sub-stop c = omega arith
 loop-holds : tie.Need-loop-holds Inv-loop μ-loop
 loop-holds c = refl
 
-mul-if2 : tie.Need-mul-if2 Inv-loop μ-loop
-mul-if2 c = omega arith
+mul-any : tie.Need-mul-any Inv-loop μ-loop
+mul-any c = omega arith
 
-shared-slice-read-if2 : tie.Need-shared-slice-read-if2 Inv-loop μ-loop
-shared-slice-read-if2 c = omega arith
+shared-slice-read-any : tie.Need-shared-slice-read-any Inv-loop μ-loop
+shared-slice-read-any c = omega arith
 
-add-if2 : tie.Need-add-if2 Inv-loop μ-loop
-add-if2 c = omega arith
+add-any : tie.Need-add-any Inv-loop μ-loop
+add-any c = omega arith
 
-mul-if2-2 : tie.Need-mul-if2-2 Inv-loop μ-loop
-mul-if2-2 c = omega arith
+mul-any-2 : tie.Need-mul-any-2 Inv-loop μ-loop
+mul-any-2 c = omega arith
 
-shared-slice-read-if2-2 : tie.Need-shared-slice-read-if2-2 Inv-loop μ-loop
-shared-slice-read-if2-2 c = omega arith
+shared-slice-read-any-2 : tie.Need-shared-slice-read-any-2 Inv-loop μ-loop
+shared-slice-read-any-2 c = omega arith
 
-add-if2-2 : tie.Need-add-if2-2 Inv-loop μ-loop
-add-if2-2 c = omega arith
+add-any-2 : tie.Need-add-any-2 Inv-loop μ-loop
+add-any-2 c = omega arith
 
-mul-if2-3 : tie.Need-mul-if2-3 Inv-loop μ-loop
-mul-if2-3 c = omega arith
+mul-any-3 : tie.Need-mul-any-3 Inv-loop μ-loop
+mul-any-3 c = omega arith
 
-shared-slice-read-if2-3 : tie.Need-shared-slice-read-if2-3 Inv-loop μ-loop
-shared-slice-read-if2-3 c = omega arith
+shared-slice-read-any-3 : tie.Need-shared-slice-read-any-3 Inv-loop μ-loop
+shared-slice-read-any-3 c = omega arith
 
-add-if2-3 : tie.Need-add-if2-3 Inv-loop μ-loop
-add-if2-3 c = omega arith
+add-any-3 : tie.Need-add-any-3 Inv-loop μ-loop
+add-any-3 c = omega arith
 
-mul-if2-4 : tie.Need-mul-if2-4 Inv-loop μ-loop
-mul-if2-4 c = omega arith
+mul-any-4 : tie.Need-mul-any-4 Inv-loop μ-loop
+mul-any-4 c = omega arith
 
-shared-slice-read-if2-4 : tie.Need-shared-slice-read-if2-4 Inv-loop μ-loop
-shared-slice-read-if2-4 c = omega arith
-
-returns-2 : tie.Need-returns-2 Inv-loop μ-loop
-returns-2 c = c .before .before .before .before .before .before .loop .inv
+shared-slice-read-any-4 : tie.Need-shared-slice-read-any-4 Inv-loop μ-loop
+shared-slice-read-any-4 c = omega arith
 
 add-i : tie.Need-add-i Inv-loop μ-loop
 add-i c = omega arith
@@ -66,12 +63,15 @@ loop-less c = omega arith
 
 loop-again : tie.Need-loop-again Inv-loop μ-loop
 loop-again c =
-    let a = c .before .before .before .before .before .before .before .before .args in
+    let a = c .before .before .before .before .before .before .before .before .before .args in
     let turn = c .before .before .before .before .before .before .loop in
-    sym (first-four (a .words .now) (turn .i) (a .end) (omega arith) (omega arith) (c .if2 .left)) ∙ turn .inv
+    sym (first-four (a .words .now) (turn .i) (a .end) (omega arith) (omega arith) (c .if1 .left)) ∙ turn .inv
 
-returns-3 : tie.Need-returns-3 Inv-loop μ-loop
-returns-3 c = c .before .loop .inv
+returns : tie.Need-returns Inv-loop μ-loop
+returns c = c .before .loop .inv
+
+returns-2 : tie.Need-returns-2 Inv-loop μ-loop
+returns-2 c = c .before .before .before .before .before .before .loop .inv
 
 pub skipped-spec : {M : Type 1} → statement M
 skipped-spec =
@@ -79,22 +79,22 @@ skipped-spec =
     (tie.spec
     Inv-loop
     μ-loop
-    returns
+    smaller-requires
     sub-stop
     loop-holds
-    mul-if2
-    shared-slice-read-if2
-    add-if2
-    mul-if2-2
-    shared-slice-read-if2-2
-    add-if2-2
-    mul-if2-3
-    shared-slice-read-if2-3
-    add-if2-3
-    mul-if2-4
-    shared-slice-read-if2-4
-    returns-2
+    mul-any
+    shared-slice-read-any
+    add-any
+    mul-any-2
+    shared-slice-read-any-2
+    add-any-2
+    mul-any-3
+    shared-slice-read-any-3
+    add-any-3
+    mul-any-4
+    shared-slice-read-any-4
     add-i
     loop-less
     loop-again
-    returns-3)
+    returns
+    returns-2)
