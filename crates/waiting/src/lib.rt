@@ -70,15 +70,15 @@ pub fn first_waiting(
         way.len(),
         waiting.len(),
     ) {
-        Checked::Stacks(stacks) => match search(n, n * stacks, waiting) {
-            Found::At(at, bit) => First::Message(
-                at / stacks / n,
-                at / stacks % n,
-                at % stacks + 1,
-                bit,
-            ),
-            Found::Nowhere => First::Quiet,
-        },
-        Checked::Refused(refusal) => First::Refused(refusal),
+        Checked::Stacks(stacks) => {
+            let Found::At(at, bit) = search(n, n * stacks, waiting) else {
+                return First::Quiet;
+            };
+            let pair = at / stacks;
+            return First::Message(pair / n, pair % n, at % stacks + 1, bit);
+        }
+        Checked::Refused(refusal) => {
+            return First::Refused(refusal);
+        }
     }
 }

@@ -30,35 +30,32 @@ search-requires c κs = (rows-at-hand _ _ _ (prepared c), rows-few _ _ _ (prepar
 enum-known-at : tie.Need-enum-known-at
 enum-known-at c = search needs
 
-div-t21 : tie.Need-div-t21
-div-t21 c = divides _ _ _ (prepared (c .before .before .before .before)) .some
-
-div-t22 : tie.Need-div-t22
-div-t22 c = divides _ _ _ (prepared (c .before .before .before .before)) .nodes
-
-div-t23 : tie.Need-div-t23
-div-t23 c = divides _ _ _ (prepared (c .before .before .before .before)) .some
-
-rem-t24 : tie.Need-rem-t24
-rem-t24 c = divides _ _ _ (prepared (c .before .before .before .before)) .nodes
-
-rem-t25 : tie.Need-rem-t25
-rem-t25 c = divides _ _ _ (prepared (c .before .before .before .before)) .some
-
-add-t26 : tie.Need-add-t26
-add-t26 c = omega (arith, mod-lt (c .before .at .given .0 .0) (divides _ _ _ (prepared (c .before .before .before .before)) .some), divides _ _ _ (prepared (c .before .before .before .before)))
-
 enum-told : tie.Need-enum-told
 enum-told c = search needs
 
-enum-known-refusal : tie.Need-enum-known-refusal
-enum-known-refusal c = search needs
-
 returns : tie.Need-returns
-returns c = first-message _ _ _ (prepared (c .before .before .before .before)) (c .before .at .given .0 .0) (c .before .at .given .0 .1 .0) (sym (c .before .before .before .search .ensures) ∙ c .before .at .given .1)
+returns c = first-quiet _ _ _ (prepared (c .before .before .before)) (sym (c .before .before .search .ensures) ∙ c .enum-told .given .1)
+
+div-pair : tie.Need-div-pair
+div-pair c = divides _ _ _ (prepared (c .before .before .before .before)) .some
+
+div-t19 : tie.Need-div-t19
+div-t19 c = divides _ _ _ (prepared (c .before .before .before .before)) .nodes
+
+rem-t20 : tie.Need-rem-t20
+rem-t20 c = divides _ _ _ (prepared (c .before .before .before .before)) .nodes
+
+rem-t21 : tie.Need-rem-t21
+rem-t21 c = divides _ _ _ (prepared (c .before .before .before .before)) .some
+
+add-t22 : tie.Need-add-t22
+add-t22 c = omega (arith, mod-lt (c .before .at .given .0 .0) (divides _ _ _ (prepared (c .before .before .before .before)) .some), divides _ _ _ (prepared (c .before .before .before .before)))
 
 returns-2 : tie.Need-returns-2
-returns-2 c = first-quiet _ _ _ (prepared (c .before .before .before)) (sym (c .before .before .search .ensures) ∙ c .enum-told .given .1)
+returns-2 c = first-message _ _ _ (prepared (c .before .before .before .before)) (c .before .at .given .0 .0) (c .before .at .given .0 .1 .0) (sym (c .before .before .before .search .ensures) ∙ c .before .at .given .1)
+
+enum-known-refusal : tie.Need-enum-known-refusal
+enum-known-refusal c = search needs
 
 returns-3 : tie.Need-returns-3
 returns-3 c =
@@ -75,14 +72,13 @@ first-waiting-spec =
     mul-search
     search-requires
     enum-known-at
-    div-t21
-    div-t22
-    div-t23
-    rem-t24
-    rem-t25
-    add-t26
     enum-told
-    enum-known-refusal
     returns
+    div-pair
+    div-t19
+    rem-t20
+    rem-t21
+    add-t22
     returns-2
+    enum-known-refusal
     returns-3)
