@@ -16,16 +16,7 @@ pub enum Answer {
 fn good_size(p: usize, h: usize) -> bool
     ensures { λ r. ⌜ r ≡ okSize p h ⌝ }
 {
-    if p < 1 {
-        return false;
-    }
-    if 8 < p {
-        return false;
-    }
-    if h < 1 {
-        return false;
-    }
-    h <= 12
+    (1 <= p) & ((p <= 8) & ((1 <= h) & (h <= 12)))
 }
 
 // How many stacks there are.
