@@ -1,2 +1,3 @@
--- The laws of crate examples.
+-- The examples of the specification, and one of them with all that a gateway does at a hearing.
 pub mod Examples
+pub mod Hearing

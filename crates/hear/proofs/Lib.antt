@@ -8,4 +8,3 @@ pub mod Offers
 pub mod Answers
 pub mod Loop
 pub mod Laws
-pub mod Examples
