@@ -43,14 +43,16 @@ repeated() {
     diff <(tail -n +2 "$log") <(tail -n +2 "$log.again")
 }
 
-# checked_fuzz: a shorter run with the address checks
-checked_fuzz() {
-    build_checked_fuzz "$out/fuzz-checked" -O && run_program "$out/fuzz-checked" 10
-}
-
-# checked_longer: the address checks stop a slice that is longer than what is lent
-checked_longer() {
-    build_checked_fuzz "$out/fuzz-checked-faulty" --cfg faults && stopped fuzz-checked-faulty longer_than_lent 'use-after-poison'
+# the programs: as it is and with faults to plant, and both once more with the address checks, which the emulator does not know
+fuzz_programs() {
+    printf '== the fuzzing programs\n'
+    beside 'the fuzzing program compiles' build_fuzz "$out/fuzz" "$library" -O
+    beside 'the one with faults to plant compiles' build_fuzz "$out/fuzz-faulty" "$library" --cfg faults
+    if [ "${#runner[@]}" -eq 0 ]; then
+        beside 'the fuzzing program compiles with address checks' build_checked_fuzz "$out/fuzz-checked" -O
+        beside 'the one with faults to plant compiles with them' build_checked_fuzz "$out/fuzz-checked-faulty" --cfg faults
+    fi
+    together
 }
 
 # blind: a run that meets none of the answers fails
@@ -63,14 +65,11 @@ blind() {
 fuzz() {
     local fault
     printf '== bad input: raw numbers and slices against the independent program\n'
-    beside 'the fuzzing program compiles' build_fuzz "$out/fuzz" "$library" -O
-    beside 'the one with faults to plant compiles' build_fuzz "$out/fuzz-faulty" "$library" --cfg faults
-    together
     beside 'every answer and every slice is the independent one' run_program "$out/fuzz" 20
     beside 'a run that meets no answer fails' blind
     if [ "${#runner[@]}" -eq 0 ]; then
-        beside 'the same under address checks' checked_fuzz
-        beside 'the address checks stop it: longer_than_lent' checked_longer
+        beside 'the same under address checks' run_program "$out/fuzz-checked" 10
+        beside 'the address checks stop it: longer_than_lent' stopped fuzz-checked-faulty longer_than_lent 'use-after-poison'
     else
         printf 'without address checks, which the emulator does not know\n'
     fi
