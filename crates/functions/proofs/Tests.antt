@@ -4,7 +4,7 @@ use native.Mathlib.Decide.{decLt}
 use native.Mathlib.Omega.{arith}
 use mathlib.Core.Path.{_≡_, refl, sym, _∙_}
 use mathlib.Core.Logic.{by-cases}
-use mathlib.Core.Bool.{Bool, true, false, _&&_, true≢false}
+use mathlib.Core.Bool.{Bool, true, false, _&&_, and-assoc, true≢false}
 use lib.Dec.{leb, ltb}
 use borrow.Author.Tests.{leb-true, ltb-true, lt-ltb, le-ltb, le-leb, lt-leb}
 use Rattle.lists.proofs.Tests.{both, bool-cases}
@@ -44,14 +44,9 @@ ranged p f ok =
 pub in-range : (p f : ℕ) → (((leb p 8 && ltb f 192) && ltb (f / 8 % 8) p) && ltb (f % 8) p) ≡ (leb 1 p && (leb p 8 && okFunction p f))
 unfolding okFunction
 in-range p f = by-cases (decLt 0 p)
-    (λ some. rw (le-leb 1 p some) (grouped (leb p 8) (ltb f 192) (ltb (f / 8 % 8) p) (ltb (f % 8) p)))
+    (λ some. rw (le-leb 1 p some) (simp and-assoc))
     (λ none. rw (lt-leb 1 p (omega arith), le-ltb (f % 8) p (omega arith)) (never ((leb p 8 && ltb f 192) && ltb (f / 8 % 8) p)))
   where
-    grouped : (x y z w : Bool) → (((x && y) && z) && w) ≡ (x && (y && (z && w)))
-    grouped true true z w = refl
-    grouped true false z w = refl
-    grouped false y z w = refl
-
     never : (x : Bool) → (x && false) ≡ false
     never true = refl
     never false = refl

@@ -18,7 +18,7 @@ use Rattle.table.proofs.Rows.{part-long}
 use Rattle.step.specs.Step.{tableAfter, Steps}
 use Rattle.step.specs.Steps.{toldOf, answerIn}
 use Rattle.step.specs.declared.Told.{Told}
-use Rattle.step.proofs.Tests.{Passed, stopped}
+use Rattle.step.proofs.Tells.{Passed, stopped}
 
 hear-passes : (g : Gateway) (m : Message) (r : Rows) → 1 ≤ g .p → g .p ≤ 8 → g .most ≤ 16384 → m .sender < 32 → m .destination < 32 → 1 ≤ m .number → m .number ≤ g .most
     → (m .destination + 1) * g .most ≤ length (r .costs) → length (r .ways) ≡ length (r .costs) → length (r .waiting) ≡ length (r .costs) → m .cost ≤ ceiling

@@ -1,4 +1,4 @@
--- `step::read_row` meets its contract: a law of proofs/Tests.antt for each return.
+-- `step::read_row` meets its contract: a law of proofs/Tells.antt for each return.
 use Prim.Native.Nat.{ℕ, _+_, _-_, _*_}
 use mathlib.Core.Path.{_≡_, refl, sym, _∙_}
 use mathlib.Core.Bool.{true}
@@ -9,7 +9,8 @@ use Rattle.bits.specs.Bits.{has}
 use Rattle.table.specs.Table.{Table, tableOf}
 use Rattle.table.specs.Answers.{okMessageIn}
 use Rattle.step.specs.Step.{okSizes}
-use Rattle.step.proofs.Tests.{Reads, reads, onward, in-part, in-whole, bad-sizes, bad-numbers, not-waiting, too-dear, no-link, tells}
+use Rattle.step.proofs.Tests.{Reads, reads, onward, in-part, in-whole}
+use Rattle.step.proofs.Tells.{bad-sizes, bad-numbers, not-waiting, too-dear, no-link, tells}
 use Rattle.step.proofs.read_row.Statement.{statement}
 use Rattle.step.proofs.read_row.Tie as tie
 

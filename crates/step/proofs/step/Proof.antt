@@ -9,7 +9,8 @@ use Rattle.hear.specs.Hearing.{Gateway}
 use Rattle.hear.specs.Answers.{gatewayOf}
 use Rattle.hear.specs.Answers as hearing
 use Rattle.table.specs.Table.{Table, tableOf}
-use Rattle.step.proofs.Tests.{Passed, passed, Lends, lends, onward, length-of}
+use Rattle.step.proofs.Tests.{onward, length-of}
+use Rattle.step.proofs.Tells.{Passed, passed, Lends, lends}
 use Rattle.step.proofs.Hearing.{put-back-long, refuses, delivers}
 use Rattle.step.proofs.step.Statement.{statement}
 use Rattle.step.proofs.step.Tie as tie
