@@ -15,8 +15,8 @@ use Rattle.bits.specs.Bits.{has}
 use Rattle.bits.proofs.Laws.{has-zero}
 use Rattle.network.specs.Network.{Network, neighbours}
 use Rattle.network.proofs.Laws.{has-neighbours}
-use Rattle.table.specs.Table.{noRow, noWay, rowsEach, rowsAll, place, nodeAt, home, homeAt, fresh, Sized, nodeOf, numberOf}
-use Rattle.bridge.specs.Bridge.{homeOf, graphOf, costOf, waitingOf, stateOf}
+use Rattle.table.specs.Table.{noRow, noWay, rowsEach, rowsAll, place, nodeAt, home, homeAt, fresh, Sized, vertexNode, vertexNumber}
+use Rattle.bridge.specs.Bridge.{homeOf, graphOf, vertexCost, vertexWaiting, stateOf}
 use Rattle.table.proofs.Rows.{Stack, is-vertex, place-below, place-node, place-destination, place-number}
 use Rattle.bridge.proofs.States.{cost-inside, cost-outside, waiting-inside, waiting-outside}
 
@@ -48,23 +48,23 @@ module _ (net : Network) where
 
   -- ---- the state of a fresh table
   module _ (D : ℕ) (d : D < net .n) where
-    cost-at : (v : ℕ) → v < rowsEach net → costOf net D (fresh net) v ≡ cond (home net (nodeOf net v) D (numberOf net v)) 0 noRow
+    cost-at : (v : ℕ) → v < rowsEach net → vertexCost net D (fresh net) v ≡ cond (home net (vertexNode net v) D (vertexNumber net v)) 0 noRow
     cost-at v b =
         let w = is-vertex net v b in
-        cost-inside net D (fresh net) v b ∙ fresh-cost (nodeOf net v) D (numberOf net v) d (w .stack) (w .node)
+        cost-inside net D (fresh net) v b ∙ fresh-cost (vertexNode net v) D (vertexNumber net v) d (w .stack) (w .node)
 
-    waiting-at : (v U : ℕ) → v < rowsEach net → waitingOf net D (fresh net) v U ≡ has (cond (home net (nodeOf net v) D (numberOf net v)) (neighbours net (nodeOf net v)) 0) U
+    waiting-at : (v U : ℕ) → v < rowsEach net → vertexWaiting net D (fresh net) v U ≡ has (cond (home net (vertexNode net v) D (vertexNumber net v)) (neighbours net (vertexNode net v)) 0) U
     waiting-at v U b =
         let w = is-vertex net v b in
-        waiting-inside net D (fresh net) v U b ∙ ap (λ (x : ℕ). has x U) (fresh-waiting (nodeOf net v) D (numberOf net v) d (w .stack) (w .node))
+        waiting-inside net D (fresh net) v U b ∙ ap (λ (x : ℕ). has x U) (fresh-waiting (vertexNode net v) D (vertexNumber net v) d (w .stack) (w .node))
 
-    home-facts : (v : ℕ) → homeOf net D v ≡ true → (v < rowsEach net) × (home net (nodeOf net v) D (numberOf net v) ≡ true)
+    home-facts : (v : ℕ) → homeOf net D v ≡ true → (v < rowsEach net) × (home net (vertexNode net v) D (vertexNumber net v) ≡ true)
     unfolding homeOf
     home-facts v e =
-        let t = both (ltb v (rowsEach net)) (home net (nodeOf net v) D (numberOf net v)) e in
+        let t = both (ltb v (rowsEach net)) (home net (vertexNode net v) D (vertexNumber net v)) e in
         (ltb-true v (rowsEach net) (t .0), t .1)
 
-    away-facts : (v : ℕ) → v < rowsEach net → homeOf net D v ≡ false → home net (nodeOf net v) D (numberOf net v) ≡ false
+    away-facts : (v : ℕ) → v < rowsEach net → homeOf net D v ≡ false → home net (vertexNode net v) D (vertexNumber net v) ≡ false
     unfolding homeOf
     away-facts v b e = simp (lt-ltb v (rowsEach net) b) at e
 
@@ -74,7 +74,7 @@ module _ (net : Network) where
       away-cost = λ v e. by-cases (decLt v (rowsEach net))
           (λ b. cost-at v b ∙ simp (away-facts v b e))
           (λ b. cost-outside net D (fresh net) v (omega arith));
-      home-waiting = λ v U e. let h = home-facts v e in waiting-at v U (h .0) ∙ simp (h .1, has-neighbours net (nodeOf net v) U);
+      home-waiting = λ v U e. let h = home-facts v e in waiting-at v U (h .0) ∙ simp (h .1, has-neighbours net (vertexNode net v) U);
       away-waiting = λ v U e. by-cases (decLt v (rowsEach net))
           (λ b. waiting-at v U b ∙ simp (away-facts v b e, has-zero U))
           (λ b. waiting-outside net D (fresh net) v U (omega arith));

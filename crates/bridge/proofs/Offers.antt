@@ -14,10 +14,10 @@ use Rattle.network.specs.Network.{Network, refusalOf}
 use Rattle.gateways.specs.Gateways.{price, weight}
 use Rattle.gateways.proofs.Laws.{weight-some}
 use Rattle.hear.specs.Hearing.{leader, offer}
-use Rattle.table.specs.Table.{Table, rowsEach, place, gateway, vertex, nodeOf, numberOf}
+use Rattle.table.specs.Table.{Table, rowsEach, place, gateway, vertex, vertexNode, vertexNumber}
 use Rattle.table.proofs.Rows.{vertex-node, vertex-number, vertex-below}
 use Rattle.table.proofs.Deliveries.{Goes, told, leaderOf, offerTo, took}
-use Rattle.bridge.specs.Bridge.{about, functionOf, weightOf, graphOf, rowOf, costOf, leadsTo, stateOf}
+use Rattle.bridge.specs.Bridge.{about, functionBetween, weightOf, graphOf, vertexPlace, vertexCost, leadsTo, stateOf}
 use Rattle.bridge.proofs.Hops.{leader-about}
 use Rattle.bridge.proofs.Weights.{Hops, weight-hop, hop-weight, hop-by}
 use Rattle.bridge.proofs.States.{cost-inside}
@@ -30,70 +30,70 @@ module _ (net : Network) (t : Table) (Q U D N : ℕ) (go : Goes net t Q U D N) w
   pub heard-below : heardOf < rowsEach net
   heard-below = vertex-below net Q N (go .sender) (go .stack)
 
-  pub heard-row : rowOf net D heardOf ≡ place net Q D N
+  pub heard-row : vertexPlace net D heardOf ≡ place net Q D N
   heard-row = rw (vertex-node net Q N (go .stack), vertex-number net Q N (go .stack)) refl
 
-  heard-cost : costOf net D t heardOf ≡ getD (t .cost) (place net Q D N) 0
+  heard-cost : vertexCost net D t heardOf ≡ getD (t .cost) (place net Q D N) 0
   heard-cost = cost-inside net D t heardOf heard-below ∙ ap (λ (i : ℕ). getD (t .cost) i 0) heard-row
 
-  module _ (u : ℕ) (mine : nodeOf net u ≡ U) where
-    pub row-mine : rowOf net D u ≡ place net U D (numberOf net u)
-    row-mine = ap (λ (W : ℕ). place net W D (numberOf net u)) mine
+  module _ (u : ℕ) (mine : vertexNode net u ≡ U) where
+    pub row-mine : vertexPlace net D u ≡ place net U D (vertexNumber net u)
+    row-mine = ap (λ (W : ℕ). place net W D (vertexNumber net u)) mine
 
-    pub function-leader : functionOf net u heardOf ≡ leaderOf net t Q U D N (numberOf net u)
-    unfolding functionOf
+    pub function-leader : functionBetween net u heardOf ≡ leaderOf net t Q U D N (vertexNumber net u)
+    unfolding functionBetween
     function-leader =
-        ap₂ (λ (W M : ℕ). leader (gateway net W) (about M) (numberOf net u)) mine (vertex-number net Q N (go .stack))
-        ∙ sym (leader-about net (told net t Q U D N) U (numberOf net u))
+        ap₂ (λ (W M : ℕ). leader (gateway net W) (about M) (vertexNumber net u)) mine (vertex-number net Q N (go .stack))
+        ∙ sym (leader-about net (told net t Q U D N) U (vertexNumber net u))
 
     -- "the offer is c + link(U,V) + price(U,f)"
-    offer-weight : offerTo net t Q U D N (numberOf net u) ≡ getD (t .cost) (place net Q D N) 0 + weight net U (leaderOf net t Q U D N (numberOf net u)) Q
+    offer-weight : offerTo net t Q U D N (vertexNumber net u) ≡ getD (t .cost) (place net Q D N) 0 + weight net U (leaderOf net t Q U D N (vertexNumber net u)) Q
     unfolding offer weight price
     offer-weight = omega arith
 
-    hop-value : Hops net u heardOf → weightOf net u heardOf ≡ weight net U (leaderOf net t Q U D N (numberOf net u)) Q
+    hop-value : Hops net u heardOf → weightOf net u heardOf ≡ weight net U (leaderOf net t Q U D N (vertexNumber net u)) Q
     hop-value hop = hop-weight net u heardOf hop ∙ rw (function-leader, mine, vertex-node net Q N (go .stack)) refl
 
-    pub offer-is : Hops net u heardOf → offerTo net t Q U D N (numberOf net u) ≡ costOf net D t heardOf + weightOf net u heardOf
+    pub offer-is : Hops net u heardOf → offerTo net t Q U D N (vertexNumber net u) ≡ vertexCost net D t heardOf + weightOf net u heardOf
     offer-is hop = offer-weight ∙ ap₂ _+_ (sym heard-cost) (sym (hop-value hop))
 
-    own-cost : u < rowsEach net → costOf net D t u ≡ getD (t .cost) (place net U D (numberOf net u)) 0
+    own-cost : u < rowsEach net → vertexCost net D t u ≡ getD (t .cost) (place net U D (vertexNumber net u)) 0
     own-cost b = cost-inside net D t u b ∙ ap (λ (i : ℕ). getD (t .cost) i 0) row-mine
 
     -- the function makes of u's stack the one that was heard of
-    leads-here : refusalOf net ≡ 0 → Hops net u heardOf → appliedOf (net .p) (net .h) (leaderOf net t Q U D N (numberOf net u)) (numberOf net u) ≡ After.Number N
+    leads-here : refusalOf net ≡ 0 → Hops net u heardOf → appliedOf (net .p) (net .h) (leaderOf net t Q U D N (vertexNumber net u)) (vertexNumber net u) ≡ After.Number N
     leads-here right hop =
-        ap (λ (f : ℕ). appliedOf (net .p) (net .h) f (numberOf net u)) (sym function-leader)
+        ap (λ (f : ℕ). appliedOf (net .p) (net .h) f (vertexNumber net u)) (sym function-leader)
         ∙ hop-by net right u heardOf hop .makes
         ∙ ap After.Number (vertex-number net Q N (go .stack))
 
     -- so the way of a row that takes its offer names the vertex that was heard of
-    pub way-leads : refusalOf net ≡ 0 → Hops net u heardOf → leadsTo net (256 * Q + leaderOf net t Q U D N (numberOf net u)) (numberOf net u) ≡ heardOf
+    pub way-leads : refusalOf net ≡ 0 → Hops net u heardOf → leadsTo net (256 * Q + leaderOf net t Q U D N (vertexNumber net u)) (vertexNumber net u) ≡ heardOf
     unfolding leadsTo
     way-leads right hop =
-        let f = leaderOf net t Q U D N (numberOf net u) in
+        let f = leaderOf net t Q U D N (vertexNumber net u) in
         let led : f < 192 = omega (arith, function-leader, hop .led) in
         let node : (256 * Q + f) / 256 ≡ Q = omega arith in
         let function : (256 * Q + f) % 256 ≡ f = omega arith in
-        ap₂ (λ (W g : ℕ). vertex net W (numberAfter (appliedOf (net .p) (net .h) g (numberOf net u)))) node function
+        ap₂ (λ (W g : ℕ). vertex net W (numberAfter (appliedOf (net .p) (net .h) g (vertexNumber net u)))) node function
         ∙ ap (λ (a : After). vertex net Q (numberAfter a)) (leads-here right hop)
 
     -- a vertex of U that takes the offer is a row that does
-    pub takes-took : Takes (graphOf net D) (stateOf net D t) heardOf U u → took net t Q U D N D (numberOf net u) ≡ true
+    pub takes-took : Takes (graphOf net D) (stateOf net D t) heardOf U u → took net t Q U D N D (vertexNumber net u) ≡ true
     unfolding took
     takes-took k =
         let hop = weight-hop net u heardOf (k .hop) in
-        let led : leaderOf net t Q U D N (numberOf net u) < 192 = omega (arith, function-leader, hop .led) in
-        simp (eq-eqb D D refl, lt-ltb (leaderOf net t Q U D N (numberOf net u)) 192 led) (ap₂ wins (offer-is hop) (sym (own-cost (hop .from))) ∙ k .better)
+        let led : leaderOf net t Q U D N (vertexNumber net u) < 192 = omega (arith, function-leader, hop .led) in
+        simp (eq-eqb D D refl, lt-ltb (leaderOf net t Q U D N (vertexNumber net u)) 192 led) (ap₂ wins (offer-is hop) (sym (own-cost (hop .from))) ∙ k .better)
 
     -- and a row of U that takes the offer is a vertex that does
-    pub took-takes : u < rowsEach net → took net t Q U D N D (numberOf net u) ≡ true → Takes (graphOf net D) (stateOf net D t) heardOf U u
+    pub took-takes : u < rowsEach net → took net t Q U D N D (vertexNumber net u) ≡ true → Takes (graphOf net D) (stateOf net D t) heardOf U u
     unfolding took
     took-takes b e =
-        let f = leaderOf net t Q U D N (numberOf net u) in
-        let old = getD (t .cost) (place net U D (numberOf net u)) 0 in
-        let a = both (eqb D D) (ltb f 192 && wins (offerTo net t Q U D N (numberOf net u)) old) e in
-        let c = both (ltb f 192) (wins (offerTo net t Q U D N (numberOf net u)) old) (a .1) in
+        let f = leaderOf net t Q U D N (vertexNumber net u) in
+        let old = getD (t .cost) (place net U D (vertexNumber net u)) 0 in
+        let a = both (eqb D D) (ltb f 192 && wins (offerTo net t Q U D N (vertexNumber net u)) old) e in
+        let c = both (ltb f 192) (wins (offerTo net t Q U D N (vertexNumber net u)) old) (a .1) in
         let hop : Hops net u heardOf = record {
           from = b;
           to = heard-below;

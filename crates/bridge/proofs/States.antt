@@ -6,30 +6,30 @@ use lib.ListN.{getD}
 use borrow.Author.Tests.{lt-ltb, le-ltb}
 use Rattle.bits.specs.Bits.{has}
 use Rattle.network.specs.Network.{Network}
-use Rattle.table.specs.Table.{Table, noRow, rowsEach, numberOf}
-use Rattle.bridge.specs.Bridge.{rowOf, costOf, waitingOf, leadsTo, nextOf}
+use Rattle.table.specs.Table.{Table, noRow, rowsEach, vertexNumber}
+use Rattle.bridge.specs.Bridge.{vertexPlace, vertexCost, vertexWaiting, leadsTo, vertexNext}
 
 module _ (net : Network) (D : ℕ) (t : Table) (v : ℕ) where
-  pub cost-inside : v < rowsEach net → costOf net D t v ≡ getD (t .cost) (rowOf net D v) 0
-  unfolding costOf
+  pub cost-inside : v < rowsEach net → vertexCost net D t v ≡ getD (t .cost) (vertexPlace net D v) 0
+  unfolding vertexCost
   cost-inside b = simp (lt-ltb v (rowsEach net) b)
 
-  pub cost-outside : rowsEach net ≤ v → costOf net D t v ≡ noRow
-  unfolding costOf
+  pub cost-outside : rowsEach net ≤ v → vertexCost net D t v ≡ noRow
+  unfolding vertexCost
   cost-outside b = simp (le-ltb v (rowsEach net) b)
 
-  pub next-inside : v < rowsEach net → nextOf net D t v ≡ leadsTo net (getD (t .way) (rowOf net D v) 0) (numberOf net v)
-  unfolding nextOf
+  pub next-inside : v < rowsEach net → vertexNext net D t v ≡ leadsTo net (getD (t .way) (vertexPlace net D v) 0) (vertexNumber net v)
+  unfolding vertexNext
   next-inside b = simp (lt-ltb v (rowsEach net) b)
 
-  pub next-outside : rowsEach net ≤ v → nextOf net D t v ≡ 0
-  unfolding nextOf
+  pub next-outside : rowsEach net ≤ v → vertexNext net D t v ≡ 0
+  unfolding vertexNext
   next-outside b = simp (le-ltb v (rowsEach net) b)
 
-  pub waiting-inside : (U : ℕ) → v < rowsEach net → waitingOf net D t v U ≡ has (getD (t .waiting) (rowOf net D v) 0) U
-  unfolding waitingOf
+  pub waiting-inside : (U : ℕ) → v < rowsEach net → vertexWaiting net D t v U ≡ has (getD (t .waiting) (vertexPlace net D v) 0) U
+  unfolding vertexWaiting
   waiting-inside U b = simp (lt-ltb v (rowsEach net) b)
 
-  pub waiting-outside : (U : ℕ) → rowsEach net ≤ v → waitingOf net D t v U ≡ false
-  unfolding waitingOf
+  pub waiting-outside : (U : ℕ) → rowsEach net ≤ v → vertexWaiting net D t v U ≡ false
+  unfolding vertexWaiting
   waiting-outside U b = simp (le-ltb v (rowsEach net) b)

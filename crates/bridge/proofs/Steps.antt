@@ -15,9 +15,9 @@ use Rattle.bits.specs.Bits.{has, without}
 use Rattle.bits.proofs.Laws.{has-without-here, has-without-there, has-withAll}
 use Rattle.network.specs.Network.{Network, link, present, neighbours, refusalOf}
 use Rattle.network.proofs.Laws.{valid, has-neighbours}
-use Rattle.table.specs.Table.{Table, rowsEach, place, cleared, delivered, Sized, vertex, nodeOf, numberOf}
+use Rattle.table.specs.Table.{Table, rowsEach, place, cleared, delivered, Sized, vertex, vertexNode, vertexNumber}
 use Rattle.table.specs.Answers.{stepRefusal}
-use Rattle.bridge.specs.Bridge.{weightOf, graphOf, rowOf, costOf, waitingOf, leadsTo, nextOf, stateOf}
+use Rattle.bridge.specs.Bridge.{weightOf, graphOf, vertexPlace, vertexCost, vertexWaiting, leadsTo, vertexNext, stateOf}
 use Rattle.table.proofs.Rows.{is-vertex, of-vertex, same-row}
 use Rattle.bridge.proofs.Weights.{weight-hop}
 use Rattle.bridge.proofs.States.{cost-inside, cost-outside, next-inside, next-outside, waiting-inside, waiting-outside}
@@ -43,95 +43,95 @@ module _ (net : Network) (right : refusalOf net ≡ 0) (t : Table) (sized : Size
     inside : u < rowsEach net
     inside = weight-hop net u (vertex net Q N) (k .hop) .from
 
-    row : rowOf net D u ≡ place net U D (numberOf net u)
+    row : vertexPlace net D u ≡ place net U D (vertexNumber net u)
     row = row-mine net t Q U D N go u (k .mine)
 
-    changed : Changes net t Q U D N sized (go .receiver) D (numberOf net u) (go .destination) (is-vertex net u inside .stack)
-    changed = changes net t Q U D N sized (go .receiver) D (numberOf net u) (go .destination) (is-vertex net u inside .stack) (takes-took net t Q U D N go u (k .mine) k)
+    changed : Changes net t Q U D N sized (go .receiver) D (vertexNumber net u) (go .destination) (is-vertex net u inside .stack)
+    changed = changes net t Q U D N sized (go .receiver) D (vertexNumber net u) (go .destination) (is-vertex net u inside .stack) (takes-took net t Q U D N go u (k .mine) k)
 
-    take-cost : costOf net D later u ≡ costOf net D t (vertex net Q N) + weightOf net u (vertex net Q N)
+    take-cost : vertexCost net D later u ≡ vertexCost net D t (vertex net Q N) + weightOf net u (vertex net Q N)
     take-cost =
         cost-inside net D later u inside
         ∙ ap (λ (i : ℕ). getD (later .cost) i 0) row
         ∙ changed .cost
         ∙ offer-is net t Q U D N go u (k .mine) (weight-hop net u (vertex net Q N) (k .hop))
 
-    take-next : nextOf net D later u ≡ vertex net Q N
+    take-next : vertexNext net D later u ≡ vertex net Q N
     take-next =
         next-inside net D later u inside
-        ∙ ap (λ (w : ℕ). leadsTo net w (numberOf net u)) (ap (λ (i : ℕ). getD (later .way) i 0) row ∙ changed .way)
+        ∙ ap (λ (w : ℕ). leadsTo net w (vertexNumber net u)) (ap (λ (i : ℕ). getD (later .way) i 0) row ∙ changed .way)
         ∙ way-leads net t Q U D N go u (k .mine) right (weight-hop net u (vertex net Q N) (k .hop))
 
     -- the row is not the message's own
-    untouched : getD (cleared net t Q U D N .waiting) (place net U D (numberOf net u)) 0 ≡ getD (t .waiting) (place net U D (numberOf net u)) 0
-    untouched = kept-row net t Q U D N sized (place net U D (numberOf net u))
-        (λ e. others net U Q right (go .linked) (sym (same-row net U D (numberOf net u) Q D N (go .destination) (go .destination) (is-vertex net u inside .stack) (go .stack) e .nodes)))
+    untouched : getD (cleared net t Q U D N .waiting) (place net U D (vertexNumber net u)) 0 ≡ getD (t .waiting) (place net U D (vertexNumber net u)) 0
+    untouched = kept-row net t Q U D N sized (place net U D (vertexNumber net u))
+        (λ e. others net U Q right (go .linked) (sym (same-row net U D (vertexNumber net u) Q D N (go .destination) (go .destination) (is-vertex net u inside .stack) (go .stack) e .nodes)))
 
-    take-tells : (W : ℕ) → waitingOf net D later u W ≡ (waitingOf net D t u W || present net (nodeOf net u) W)
+    take-tells : (W : ℕ) → vertexWaiting net D later u W ≡ (vertexWaiting net D t u W || present net (vertexNode net u) W)
     take-tells W =
         waiting-inside net D later u W inside
         ∙ ap (λ (w : ℕ). has w W) (ap (λ (i : ℕ). getD (later .waiting) i 0) row ∙ changed .waiting)
-        ∙ has-withAll (getD (cleared net t Q U D N .waiting) (place net U D (numberOf net u)) 0) (neighbours net U) W
+        ∙ has-withAll (getD (cleared net t Q U D N .waiting) (place net U D (vertexNumber net u)) 0) (neighbours net U) W
         ∙ ap₂ _||_
         (ap (λ (w : ℕ). has w W) (untouched ∙ ap (λ (i : ℕ). getD (t .waiting) i 0) (sym row)) ∙ sym (waiting-inside net D t u W inside))
         (has-neighbours net U W ∙ ap (λ (X : ℕ). present net X W) (sym (k .mine)))
 
   -- ---- a vertex that does not
   module _ (u : ℕ) (b : u < rowsEach net) (k : ¬ TakesAt u) where
-    stayed : Stays net t Q U D N sized (go .receiver) D (numberOf net u) (go .destination) (is-vertex net u b .stack) (nodeOf net u)
-    stayed = stays net t Q U D N sized (go .receiver) D (numberOf net u) (go .destination) (is-vertex net u b .stack) (nodeOf net u)
-        (λ mine. bool-cases (took net t Q U D N D (numberOf net u)) (λ e. absurd (k (took-takes net t Q U D N go u mine b e))) (λ e. e))
+    stayed : Stays net t Q U D N sized (go .receiver) D (vertexNumber net u) (go .destination) (is-vertex net u b .stack) (vertexNode net u)
+    stayed = stays net t Q U D N sized (go .receiver) D (vertexNumber net u) (go .destination) (is-vertex net u b .stack) (vertexNode net u)
+        (λ mine. bool-cases (took net t Q U D N D (vertexNumber net u)) (λ e. absurd (k (took-takes net t Q U D N go u mine b e))) (λ e. e))
 
-    kept-waiting : (W : ℕ) → waitingOf net D later u W ≡ has (getD (cleared net t Q U D N .waiting) (rowOf net D u) 0) W
+    kept-waiting : (W : ℕ) → vertexWaiting net D later u W ≡ has (getD (cleared net t Q U D N .waiting) (vertexPlace net D u) 0) W
     kept-waiting W = waiting-inside net D later u W b ∙ ap (λ (w : ℕ). has w W) (stayed .waiting)
 
     -- the message's own row, and any other
-    own-row : u ≡ vertex net Q N → getD (cleared net t Q U D N .waiting) (rowOf net D u) 0 ≡ without (getD (t .waiting) (rowOf net D u) 0) U
+    own-row : u ≡ vertex net Q N → getD (cleared net t Q U D N .waiting) (vertexPlace net D u) 0 ≡ without (getD (t .waiting) (vertexPlace net D u) 0) U
     own-row e =
-        let same : rowOf net D u ≡ place net Q D N = ap (rowOf net D) e ∙ heard-row net t Q U D N go in
+        let same : vertexPlace net D u ≡ place net Q D N = ap (vertexPlace net D) e ∙ heard-row net t Q U D N go in
         ap (λ (i : ℕ). getD (cleared net t Q U D N .waiting) i 0) same
         ∙ cleared-row net t Q U D N sized (go .sender) (go .destination) (go .stack)
         ∙ ap (λ (i : ℕ). without (getD (t .waiting) i 0) U) (sym same)
 
-    other-row : (u ≡ vertex net Q N → ⊥) → getD (cleared net t Q U D N .waiting) (rowOf net D u) 0 ≡ getD (t .waiting) (rowOf net D u) 0
-    other-row n = kept-row net t Q U D N sized (rowOf net D u)
-        (λ e. let s = same-row net (nodeOf net u) D (numberOf net u) Q D N (go .destination) (go .destination) (is-vertex net u b .stack) (go .stack) e in
+    other-row : (u ≡ vertex net Q N → ⊥) → getD (cleared net t Q U D N .waiting) (vertexPlace net D u) 0 ≡ getD (t .waiting) (vertexPlace net D u) 0
+    other-row n = kept-row net t Q U D N sized (vertexPlace net D u)
+        (λ e. let s = same-row net (vertexNode net u) D (vertexNumber net u) Q D N (go .destination) (go .destination) (is-vertex net u b .stack) (go .stack) e in
         n (sym (of-vertex net u) ∙ ap₂ (vertex net) (s .nodes) (s .numbers)))
 
-    keep-rest : (W : ℕ) → graph.cleared (vertex net Q N) U u W ≡ false → waitingOf net D later u W ≡ waitingOf net D t u W
+    keep-rest : (W : ℕ) → graph.cleared (vertex net Q N) U u W ≡ false → vertexWaiting net D later u W ≡ vertexWaiting net D t u W
     keep-rest W e =
         kept-waiting W
         ∙ by-cases (ℕ-discrete u (vertex net Q N))
-        (λ q. ap (λ (w : ℕ). has w W) (own-row q) ∙ has-without-there (getD (t .waiting) (rowOf net D u) 0) U W (λ same. told-of q same))
+        (λ q. ap (λ (w : ℕ). has w W) (own-row q) ∙ has-without-there (getD (t .waiting) (vertexPlace net D u) 0) U W (λ same. told-of q same))
         (λ n. ap (λ (w : ℕ). has w W) (other-row n))
         ∙ sym (waiting-inside net D t u W b)
       where
         told-of : u ≡ vertex net Q N → W ≡ U → ⊥
         told-of q same = true≢false (sym (cleared-here (vertex net Q N) U) ∙ ap₂ (graph.cleared (vertex net Q N) U) (sym q) (sym same) ∙ e)
 
-    heard-it : (W : ℕ) → graph.cleared (vertex net Q N) U u W ≡ true → waitingOf net D later u W ≡ false
+    heard-it : (W : ℕ) → graph.cleared (vertex net Q N) U u W ≡ true → vertexWaiting net D later u W ≡ false
     heard-it W e =
         let same = cleared-only (vertex net Q N) U u W e in
-        kept-waiting W ∙ ap₂ has (own-row (same .0)) (same .1) ∙ has-without-here (getD (t .waiting) (rowOf net D u) 0) U
+        kept-waiting W ∙ ap₂ has (own-row (same .0)) (same .1) ∙ has-without-here (getD (t .waiting) (vertexPlace net D u) 0) U
 
   -- ---- inside and outside together
-  keeps : (u : ℕ) → ¬ TakesAt u → (costOf net D later u ≡ costOf net D t u) × (nextOf net D later u ≡ nextOf net D t u)
+  keeps : (u : ℕ) → ¬ TakesAt u → (vertexCost net D later u ≡ vertexCost net D t u) × (vertexNext net D later u ≡ vertexNext net D t u)
   keeps u k = by-cases (decLt u (rowsEach net))
       (λ b. (
         cost-inside net D later u b ∙ stayed u b k .cost ∙ sym (cost-inside net D t u b),
-        next-inside net D later u b ∙ ap (λ (w : ℕ). leadsTo net w (numberOf net u)) (stayed u b k .way) ∙ sym (next-inside net D t u b),
+        next-inside net D later u b ∙ ap (λ (w : ℕ). leadsTo net w (vertexNumber net u)) (stayed u b k .way) ∙ sym (next-inside net D t u b),
       ))
       (λ n. let b : rowsEach net ≤ u = omega arith in (
         cost-outside net D later u b ∙ sym (cost-outside net D t u b),
         next-outside net D later u b ∙ sym (next-outside net D t u b),
       ))
 
-  keep-waiting : (u W : ℕ) → ¬ TakesAt u → graph.cleared (vertex net Q N) U u W ≡ false → waitingOf net D later u W ≡ waitingOf net D t u W
+  keep-waiting : (u W : ℕ) → ¬ TakesAt u → graph.cleared (vertex net Q N) U u W ≡ false → vertexWaiting net D later u W ≡ vertexWaiting net D t u W
   keep-waiting u W k e = by-cases (decLt u (rowsEach net))
       (λ b. keep-rest u b k W e)
       (λ n. let b : rowsEach net ≤ u = omega arith in waiting-outside net D later u W b ∙ sym (waiting-outside net D t u W b))
 
-  heard-now : (u W : ℕ) → ¬ TakesAt u → graph.cleared (vertex net Q N) U u W ≡ true → waitingOf net D later u W ≡ false
+  heard-now : (u W : ℕ) → ¬ TakesAt u → graph.cleared (vertex net Q N) U u W ≡ true → vertexWaiting net D later u W ≡ false
   heard-now u W k e = by-cases (decLt u (rowsEach net))
       (λ b. heard-it u b k W e)
       (λ n. waiting-outside net D later u W (omega arith))
@@ -141,8 +141,8 @@ module _ (net : Network) (right : refusalOf net ≡ 0) (t : Table) (sized : Size
     waits = waiting-inside net D t (vertex net Q N) U (heard-below net t Q U D N go) ∙ ap (λ (i : ℕ). has (getD (t .waiting) i 0) U) (heard-row net t Q U D N go) ∙ go .waiting;
     take-cost = take-cost;
     take-next = take-next;
-    take-waiting = λ u W k e. take-tells u k W ∙ ap (λ (b : Bool). waitingOf net D t u W || b) e ∙ or-true (waitingOf net D t u W);
-    take-rest = λ u W k e. take-tells u k W ∙ ap (λ (b : Bool). waitingOf net D t u W || b) e ∙ or-false (waitingOf net D t u W);
+    take-waiting = λ u W k e. take-tells u k W ∙ ap (λ (b : Bool). vertexWaiting net D t u W || b) e ∙ or-true (vertexWaiting net D t u W);
+    take-rest = λ u W k e. take-tells u k W ∙ ap (λ (b : Bool). vertexWaiting net D t u W || b) e ∙ or-false (vertexWaiting net D t u W);
     keep-cost = λ u k. keeps u k .0;
     keep-next = λ u k. keeps u k .1;
     keep-waiting = keep-waiting;
@@ -160,12 +160,12 @@ module _ (net : Network) (t : Table) (sized : Sized net t) (Q U E N : ℕ) (go :
   not-taken M = simp (ne-eqb D E other)
 
   module _ (v : ℕ) (b : v < rowsEach net) where
-    away : Stays net t Q U E N sized (go .receiver) D (numberOf net v) d (is-vertex net v b .stack) (nodeOf net v)
-    away = stays net t Q U E N sized (go .receiver) D (numberOf net v) d (is-vertex net v b .stack) (nodeOf net v) (λ mine. not-taken (numberOf net v))
+    away : Stays net t Q U E N sized (go .receiver) D (vertexNumber net v) d (is-vertex net v b .stack) (vertexNode net v)
+    away = stays net t Q U E N sized (go .receiver) D (vertexNumber net v) d (is-vertex net v b .stack) (vertexNode net v) (λ mine. not-taken (vertexNumber net v))
 
-    away-waiting : getD (delivered net t Q U E N .waiting) (rowOf net D v) 0 ≡ getD (t .waiting) (rowOf net D v) 0
-    away-waiting = away .waiting ∙ kept-row net t Q U E N sized (rowOf net D v)
-        (λ e. other (same-row net (nodeOf net v) D (numberOf net v) Q E N d (go .destination) (is-vertex net v b .stack) (go .stack) e .destinations))
+    away-waiting : getD (delivered net t Q U E N .waiting) (vertexPlace net D v) 0 ≡ getD (t .waiting) (vertexPlace net D v) 0
+    away-waiting = away .waiting ∙ kept-row net t Q U E N sized (vertexPlace net D v)
+        (λ e. other (same-row net (vertexNode net v) D (vertexNumber net v) Q E N d (go .destination) (is-vertex net v b .stack) (go .stack) e .destinations))
 
   elsewhere : Same (stateOf net D t) (stateOf net D (delivered net t Q U E N))
   elsewhere = record {
@@ -173,7 +173,7 @@ module _ (net : Network) (t : Table) (sized : Sized net t) (Q U E N : ℕ) (go :
         (λ b. cost-inside net D t v b ∙ sym (away v b .cost) ∙ sym (cost-inside net D (delivered net t Q U E N) v b))
         (λ n. let b : rowsEach net ≤ v = omega arith in cost-outside net D t v b ∙ sym (cost-outside net D (delivered net t Q U E N) v b));
     same-next = λ v. by-cases (decLt v (rowsEach net))
-        (λ b. next-inside net D t v b ∙ ap (λ (w : ℕ). leadsTo net w (numberOf net v)) (sym (away v b .way)) ∙ sym (next-inside net D (delivered net t Q U E N) v b))
+        (λ b. next-inside net D t v b ∙ ap (λ (w : ℕ). leadsTo net w (vertexNumber net v)) (sym (away v b .way)) ∙ sym (next-inside net D (delivered net t Q U E N) v b))
         (λ n. let b : rowsEach net ≤ v = omega arith in next-outside net D t v b ∙ sym (next-outside net D (delivered net t Q U E N) v b));
     same-waiting = λ v W. by-cases (decLt v (rowsEach net))
         (λ b. waiting-inside net D t v W b ∙ ap (λ (w : ℕ). has w W) (sym (away-waiting v b)) ∙ sym (waiting-inside net D (delivered net t Q U E N) v W b))

@@ -11,7 +11,7 @@ use Rattle.bits.specs.Bits.{has}
 use Rattle.network.specs.Network.{Network, present}
 use Rattle.gateways.specs.Gateways.{can, weight}
 use Rattle.hear.specs.Hearing.{Message, leader}
-use Rattle.table.specs.Table.{Table, Sized, vertex, nodeOf, numberOf, noRow, rowsEach, place, home, fresh, gateway, delivered}
+use Rattle.table.specs.Table.{Table, Sized, vertex, vertexNode, vertexNumber, noRow, rowsEach, place, home, fresh, gateway, delivered}
 use Rattle.table.specs.Answers.{stepRefusal}
 
 -- a message about a stack number, of which only that number matters
@@ -21,57 +21,57 @@ about N = record { sender = 0; destination = 0; number = N; cost = 0; link = 0 }
 module _ (net : Network) where
   -- ---- the graph
   -- the function that leads from u to v; 192 where none does
-  unfoldable pub functionOf : ℕ → ℕ → ℕ
-  functionOf u v = leader (gateway net (nodeOf net u)) (about (numberOf net v)) (numberOf net u)
+  unfoldable pub functionBetween : ℕ → ℕ → ℕ
+  functionBetween u v = leader (gateway net (vertexNode net u)) (about (vertexNumber net v)) (vertexNumber net u)
 
   -- there is a hop from u to v: a link, and a function of u's node that makes v's stack of u's
   unfoldable pub hops : ℕ → ℕ → Bool
-  hops u v = ltb u (rowsEach net) && (ltb v (rowsEach net) && (present net (nodeOf net u) (nodeOf net v) && ltb (functionOf u v) 192))
+  hops u v = ltb u (rowsEach net) && (ltb v (rowsEach net) && (present net (vertexNode net u) (vertexNode net v) && ltb (functionBetween u v) 192))
 
   -- "Using function f at U over the link to V costs link(U,V) + price(U,f)"
   unfoldable pub weightOf : ℕ → ℕ → ℕ
-  weightOf u v = cond (hops u v) (weight net (nodeOf net u) (functionOf u v) (nodeOf net v)) 0
+  weightOf u v = cond (hops u v) (weight net (vertexNode net u) (functionBetween u v) (vertexNode net v)) 0
 
   unfoldable pub homeOf : ℕ → ℕ → Bool
-  homeOf D v = ltb v (rowsEach net) && home net (nodeOf net v) D (numberOf net v)
+  homeOf D v = ltb v (rowsEach net) && home net (vertexNode net v) D (vertexNumber net v)
 
   abbrev pub graphOf : ℕ → Graph
   graphOf D = record {
     size = rowsEach net;
     dearest = 131069;
     weight = weightOf;
-    node = nodeOf net;
+    node = vertexNode net;
     neighbour = present net;
     home = homeOf D;
   }
 
   -- ---- the state
   -- where the row of a vertex for the destination D stands
-  abbrev pub rowOf : ℕ → ℕ → ℕ
-  rowOf D v = place net (nodeOf net v) D (numberOf net v)
+  abbrev pub vertexPlace : ℕ → ℕ → ℕ
+  vertexPlace D v = place net (vertexNode net v) D (vertexNumber net v)
 
-  unfoldable pub costOf : ℕ → Table → ℕ → ℕ
-  costOf D t v = cond (ltb v (rowsEach net)) (getD (t .cost) (rowOf D v) 0) noRow
+  unfoldable pub vertexCost : ℕ → Table → ℕ → ℕ
+  vertexCost D t v = cond (ltb v (rowsEach net)) (getD (t .cost) (vertexPlace D v) 0) noRow
 
-  unfoldable pub waitingOf : ℕ → Table → ℕ → ℕ → Bool
-  waitingOf D t v U = ltb v (rowsEach net) && has (getD (t .waiting) (rowOf D v) 0) U
+  unfoldable pub vertexWaiting : ℕ → Table → ℕ → ℕ → Bool
+  vertexWaiting D t v U = ltb v (rowsEach net) && has (getD (t .waiting) (vertexPlace D v) 0) U
 
   -- the vertex that a way names at a stack number: the next node, with what the function makes of the stack
   unfoldable pub leadsTo : ℕ → ℕ → ℕ
   leadsTo way N = vertex net (way / 256) (numberAfter (appliedOf (net .p) (net .h) (way % 256) N))
 
-  unfoldable pub nextOf : ℕ → Table → ℕ → ℕ
-  nextOf D t v = cond (ltb v (rowsEach net)) (leadsTo (getD (t .way) (rowOf D v) 0) (numberOf net v)) 0
+  unfoldable pub vertexNext : ℕ → Table → ℕ → ℕ
+  vertexNext D t v = cond (ltb v (rowsEach net)) (leadsTo (getD (t .way) (vertexPlace D v) 0) (vertexNumber net v)) 0
 
   abbrev pub stateOf : ℕ → Table → State
-  stateOf D t = record { cost = costOf D t; next = nextOf D t; waiting = waitingOf D t }
+  stateOf D t = record { cost = vertexCost D t; next = vertexNext D t; waiting = vertexWaiting D t }
 
   -- the hop from u to v is by the function f
   pub record HopBy (u v f : ℕ) : Type 0 where
-    pub has-it : can net (nodeOf net u) f ≡ true
-    pub linked : present net (nodeOf net u) (nodeOf net v) ≡ true
-    pub makes : appliedOf (net .p) (net .h) f (numberOf net u) ≡ After.Number (numberOf net v)
-    pub weighs : weightOf u v ≡ weight net (nodeOf net u) f (nodeOf net v)
+    pub has-it : can net (vertexNode net u) f ≡ true
+    pub linked : present net (vertexNode net u) (vertexNode net v) ≡ true
+    pub makes : appliedOf (net .p) (net .h) f (vertexNumber net u) ≡ After.Number (vertexNumber net v)
+    pub weighs : weightOf u v ≡ weight net (vertexNode net u) f (vertexNode net v)
 
   -- ---- what is shown of them where the network is not refused, its numbers have 16 bits and D is one of its nodes (proofs/Theorems.antt)
   pub record Bridged (D : ℕ) : Type 0 where

@@ -94,8 +94,8 @@ lowest word = one (bits.lowest word)
 pub ones : (word : ℕ) → One (λ (r : ℕ). r ≡ bits.onesOf word)
 ones word = one (bits.onesOf word)
 
-pub ones-in : (list : List ℕ) → One (λ (r : ℕ). r ≡ words.countOf list)
-ones-in list = one (words.countOf list)
+pub ones-in : (list : List ℕ) → One (λ (r : ℕ). r ≡ words.onesAnswer list)
+ones-in list = one (words.onesAnswer list)
 
 pub first-in : (list : List ℕ) (from to : ℕ) → One (λ (r : Found). r ≡ words.firstBetween from to list)
 first-in list from to = one (words.firstBetween from to list)

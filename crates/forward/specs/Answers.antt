@@ -4,7 +4,7 @@ use mathlib.Core.List.{List}
 use mathlib.Core.Bool.{Bool, cond, _&&_}
 use lib.ListN.{getD}
 use lib.Dec.{leb, ltb, eqb}
-use Rattle.stacks.specs.Stacks.{number}
+use Rattle.stacks.specs.Stacks.{oneTo, number}
 use Rattle.functions.specs.Answers.{movedOf, numberAfter}
 use Rattle.network.specs.Network.{Network}
 use Rattle.table.specs.Table.{Table, placeIn, home}
@@ -20,7 +20,7 @@ lookupOf net t U D stack =
 
 -- sizes within which rows can be counted, and a row's numbers: "node not below n, .. stack number 0 or above S" is refusal 4
 unfoldable pub okPlace : ℕ → ℕ → ℕ → ℕ → ℕ → Bool
-okPlace n s U D N = leb n 32 && (leb s 16384 && (ltb U n && (ltb D n && (leb 1 N && leb N s))))
+okPlace n s U D N = leb n 32 && (leb s 16384 && (ltb U n && (ltb D n && oneTo s N)))
 
 -- what U's row with cost c and way w answers, where there are s stacks: its function makes what `moved` makes of stack number N
 abbrev pub rowAnswer : Network → ℕ → Bool → ℕ → ℕ → ℕ → ℕ → Look

@@ -9,7 +9,7 @@ use Rattle.lists.specs.Lists.{tabulate}
 use Rattle.lists.proofs.Tables.{tabulate-same}
 use Rattle.stacks.proofs.Count.{count-some}
 use Rattle.stacks.proofs.Tests.{sizes}
-use Rattle.words.specs.Words.{onesIn, countOf}
+use Rattle.words.specs.Words.{onesIn, onesAnswer}
 use Rattle.words.proofs.Search.{count-few}
 use Rattle.network.specs.Network.{Network, stacks, neighbours}
 use Rattle.network.proofs.Laws.{valid}
@@ -80,7 +80,7 @@ module _ (net : Network) (t : Table) (s : ℕ) (ready : Ready net t s) where
         ∙ ap (λ (l : List ℕ). tableOf (fresh net .cost) (fresh net .way) l) waiting-fresh
         ∙ sym (begun net t s ready (fresh net) t)
 
-    pub fresh-count : (r : ℕ) → r ≡ countOf waiting → Counted.Messages r ≡ freshAnswer net t
+    pub fresh-count : (r : ℕ) → r ≡ onesAnswer waiting → Counted.Messages r ≡ freshAnswer net t
     fresh-count r e =
         let few : length waiting ≤ 524288 = omega (arith, below-length _ _ _ _ _ waiting waits, rows-most (net .n) (net .p) s shape-of) in
         ap Counted.Messages (e ∙ count-few waiting few ∙ ap onesIn waiting-fresh)

@@ -23,12 +23,12 @@ use Rattle.hear.specs.Hearing.{Gateway, Message, Rows, leader, leaderAt,
 use Rattle.hear.specs.Steps.{placeOf}
 use Rattle.hear.proofs.Sources.{led}
 use Rattle.hear.proofs.Leaders.{leader-found}
-use Rattle.hear.proofs.Candidates.{turnOf, turn-low}
+use Rattle.hear.proofs.Candidates.{turnOfFunction, turn-low}
 
 module _ (g : Gateway) (m : Message) where
   -- as `takes`, where only the first i candidates have made their offers
   unfoldable pub takesBelow : ℕ → List ℕ → ℕ → Bool
-  takesBelow i costs j = takes g m costs j && ltb (turnOf (g .p) (leaderAt g m j)) i
+  takesBelow i costs j = takes g m costs j && ltb (turnOfFunction (g .p) (leaderAt g m j)) i
 
   unfoldable pub costBelow : ℕ → Rows → ℕ → ℕ
   costBelow i r j = cond (takesBelow i (r .costs) j) (offer g m (leaderAt g m j)) (getD (r .costs) j 0)
@@ -95,7 +95,7 @@ module _ (g : Gateway) (m : Message) where
   -- ---- no candidate and every candidate
   takes-none : (costs : List ℕ) (j : ℕ) → takesBelow g m 0 costs j ≡ false
   unfolding takesBelow
-  takes-none costs j = simp (le-ltb (turnOf (g .p) (leaderAt g m j)) 0 (omega arith), and-false)
+  takes-none costs j = simp (le-ltb (turnOfFunction (g .p) (leaderAt g m j)) 0 (omega arith), and-false)
 
   pub rows-none : (r : Rows) → length (r .ways) ≡ length (r .costs) → length (r .waiting) ≡ length (r .costs) → r ≡ rowsBelow g m 0 r
   unfolding rowsBelow costBelow wayBelow waitingBelow
@@ -119,7 +119,7 @@ module _ (g : Gateway) (m : Message) where
   taken-none r = howMany-none (length (r .costs)) (takesBelow g m 0 (r .costs)) (λ i b. takes-none (r .costs) i)
 
   module _ (some : 1 ≤ g .p) where
-    leader-turn : (x : ℕ) → leader g m x < 192 → turnOf (g .p) (leader g m x) < 2 * g .p + 1
+    leader-turn : (x : ℕ) → leader g m x < 192 → turnOfFunction (g .p) (leader g m x) < 2 * g .p + 1
     leader-turn x low =
         let l = led (g .p) (g .most) (leader g m x) x (m .number) (leader-found g m x low .makes) in
         turn-low (g .p) (kindOf (leader g m x)) (fromOf (leader g m x)) (toOf (leader g m x)) some (l .moves .parts .from) (l .moves .parts .to)
@@ -127,7 +127,7 @@ module _ (g : Gateway) (m : Message) where
     takes-all : (costs : List ℕ) (j : ℕ) → takesBelow g m (2 * g .p + 1) costs j ≡ takes g m costs j
     unfolding takesBelow
     takes-all costs j = bool-cases (takes g m costs j)
-        (λ e. simp (e, lt-ltb (turnOf (g .p) (leaderAt g m j)) (2 * g .p + 1) (leader-turn (j % g .most + 1) (takes-says costs j e .led))))
+        (λ e. simp (e, lt-ltb (turnOfFunction (g .p) (leaderAt g m j)) (2 * g .p + 1) (leader-turn (j % g .most + 1) (takes-says costs j e .led))))
         (λ e. simp e)
 
     pub rows-all : (r : Rows) → rowsBelow g m (2 * g .p + 1) r ≡ heard g m r
@@ -157,13 +157,13 @@ module _ (g : Gateway) (m : Message) where
     taken-same = howMany-same (length (r .costs)) (takesBelow g m i (r .costs)) (takesBelow g m (i + 1) (r .costs)) (λ j b. same j)
 
   -- a row takes the same where it takes no offer of the candidate in turn
-  pub same-takes : (i : ℕ) (costs : List ℕ) (j : ℕ) → (Takes g m costs j → turnOf (g .p) (leaderAt g m j) ≡ i → ⊥)
+  pub same-takes : (i : ℕ) (costs : List ℕ) (j : ℕ) → (Takes g m costs j → turnOfFunction (g .p) (leaderAt g m j) ≡ i → ⊥)
       → takesBelow g m i costs j ≡ takesBelow g m (i + 1) costs j
   unfolding takesBelow
   same-takes i costs j none = bool-cases (takes g m costs j) (λ e. simp (e, tests (none (takes-says costs j e)))) (λ e. simp e)
     where
       turn : ℕ
-      turn = turnOf (g .p) (leaderAt g m j)
+      turn = turnOfFunction (g .p) (leaderAt g m j)
 
       tests : (turn ≡ i → ⊥) → ltb turn i ≡ ltb turn (i + 1)
       tests other = by-cases (decLt turn i)

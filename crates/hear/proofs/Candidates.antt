@@ -11,8 +11,8 @@ use borrow.Author.Tests.{lt-ltb, le-ltb}
 use Rattle.stacks.specs.Stacks.{top, rest}
 use Rattle.functions.specs.Functions.{kindOf, fromOf, toOf}
 use Rattle.hear.specs.Hearing.{Gateway, Message, leader}
-use Rattle.hear.specs.Answers.{gridOf, wordsOf}
-use Rattle.hear.specs.Steps.{candidateOf, functionOf, Turn, Parted}
+use Rattle.hear.specs.Answers.{gridOfKind, wordsOf}
+use Rattle.hear.specs.Steps.{candidateOf, candidateFunction, Turn, Parted}
 use Rattle.hear.specs.declared.Candidate.{Candidate}
 use Rattle.hear.proofs.Sources.{Source, led, moved-source, put-together}
 use Rattle.hear.proofs.Leaders.{leader-found, leader-only}
@@ -23,8 +23,8 @@ turnBy p zero a b = a
 turnBy p (suc zero) a b = p
 turnBy p (suc (suc k)) a b = p + 1 + b
 
-abbrev pub turnOf : ℕ → ℕ → ℕ
-turnOf p f = turnBy p (kindOf f) (fromOf f) (toOf f)
+abbrev pub turnOfFunction : ℕ → ℕ → ℕ
+turnOfFunction p f = turnBy p (kindOf f) (fromOf f) (toOf f)
 
 -- ---- the three kinds
 module _ (p number i : ℕ) where
@@ -120,13 +120,13 @@ digits k a b ha hb =
     record { kind = omega arith; from = omega arith; to = omega arith }
 
 -- a function's word is its grid's entry
-grid-at : (grids : List (List (List ℕ))) (k : ℕ) → k < 3 → gridOf k (getD grids 0 []) (getD grids 1 []) (getD grids 2 []) ≡ getD grids k []
+grid-at : (grids : List (List (List ℕ))) (k : ℕ) → k < 3 → gridOfKind k (getD grids 0 []) (getD grids 1 []) (getD grids 2 []) ≡ getD grids k []
 grid-at grids zero low = refl
 grid-at grids (suc zero) low = refl
 grid-at grids (suc (suc k)) low = let e : 2 ≡ suc (suc k) = omega arith in ap (λ (x : ℕ). getD grids x []) e
 
 pub word-at : (grids : List (List (List ℕ))) (c : Candidate) → c .kind < 3 → c .from < 8 → c .to < 8
-    → getD (getD (getD grids (c .kind) []) (c .from) []) (c .to) 0 ≡ wordsOf (getD grids 0 []) (getD grids 1 []) (getD grids 2 []) (functionOf c)
+    → getD (getD (getD grids (c .kind) []) (c .from) []) (c .to) 0 ≡ wordsOf (getD grids 0 []) (getD grids 1 []) (getD grids 2 []) (candidateFunction c)
 word-at grids c kinds froms tos =
     let d = digits (c .kind) (c .from) (c .to) froms tos in
     sym (simp (d .kind, d .from, d .to, grid-at grids (c .kind) kinds))
@@ -139,29 +139,29 @@ module _ (g : Gateway) (m : Message) (i : ℕ) (z : Turn (g .p) (m .number) i) (
   parts : Candid (g .p) (m .number) i here
   parts = candid (g .p) (m .number) i (z .some) (z .turn)
 
-  functions : Digits (functionOf here) (here .kind) (here .from) (here .to)
+  functions : Digits (candidateFunction here) (here .kind) (here .from) (here .to)
   functions = digits (here .kind) (here .from) (here .to) (omega (arith, parts .froms, z .few)) (omega (arith, parts .tos, z .few))
 
-  pub function-low : functionOf here < 192
+  pub function-low : candidateFunction here < 192
   function-low = omega (arith, parts .kinds, parts .froms, parts .tos, z .few)
 
-  pub function-turn : turnOf (g .p) (functionOf here) ≡ i
+  pub function-turn : turnOfFunction (g .p) (candidateFunction here) ≡ i
   function-turn = simp (functions .kind, functions .from, functions .to) (parts .turn)
 
   -- of the functions that lead to the heard stack only this one is in turn, from its stack alone
-  pub only : (x : ℕ) → leader g m x < 192 → turnOf (g .p) (leader g m x) ≡ i → (leader g m x ≡ functionOf here) × (x ≡ here .number)
+  pub only : (x : ℕ) → leader g m x < 192 → turnOfFunction (g .p) (leader g m x) ≡ i → (leader g m x ≡ candidateFunction here) × (x ≡ here .number)
   only x low e =
       let l = led (g .p) (g .most) (leader g m x) x (m .number) (leader-found g m x low .makes) in
       let f = leader g m x in
       let q = sym (in-turn (g .p) (m .number) (kindOf f) (fromOf f) (toOf f) x (omega arith) (l .moves .parts .from) (l .from-source)) ∙ ap (candidateOf (g .p) (m .number)) e in
-      (put-together f ∙ ap functionOf q, ap (λ (y : Candidate). y .number) q)
+      (put-together f ∙ ap candidateFunction q, ap (λ (y : Candidate). y .number) q)
 
-  pub leads : 0 < g .words (functionOf here) → 1 ≤ here .number → here .number ≤ g .most → leader g m (here .number) ≡ functionOf here
+  pub leads : 0 < g .words (candidateFunction here) → 1 ≤ here .number → here .number ≤ g .most → leader g m (here .number) ≡ candidateFunction here
   leads has some low =
-      leader-only g m (here .number) (functionOf here) function-low
+      leader-only g m (here .number) (candidateFunction here) function-low
       (record {
         has = has;
-        makes = moved-source (g .p) (g .most) (functionOf here) (here .number) (m .number) (z .some) (z .few) bounded function-low
+        makes = moved-source (g .p) (g .most) (candidateFunction here) (here .number) (m .number) (z .some) (z .few) bounded function-low
             (omega (arith, functions .from, parts .froms)) (omega (arith, functions .to, parts .tos)) some low (z .numbered) within
             (simp (functions .kind, functions .from, functions .to) (parts .source some));
       })

@@ -10,7 +10,7 @@ use mir.Val.{Fits}
 use Rattle.bits.specs.Bits.{withAll}
 use Rattle.hear.specs.Hearing.{Gateway, Message, Rows}
 use Rattle.hear.specs.Answers.{wordsOf, gatewayOf, rowsOf, Hears}
-use Rattle.hear.specs.Steps.{candidateOf, functionOf, offerOf, Turn}
+use Rattle.hear.specs.Steps.{candidateOf, candidateFunction, offerOf, Turn}
 use Rattle.hear.specs.declared.Heard.{Heard}
 use Rattle.hear.specs.declared.Candidate.{Candidate}
 use Rattle.hear.specs.declared.Offer.{Offer}
@@ -165,4 +165,4 @@ pub offered : (p most neighbours : ℕ) (grids : List (List (List ℕ))) (m : Me
 offered p most neighbours grids m i c o z is e =
     let d = small p (m .number) i c z is in
     e ∙ ap (λ (w : ℕ). offerOf most (m .sender) (m .destination) (m .cost) (m .link) w c) (word-at grids c (d .kinds) (d .froms) (d .tos))
-    ∙ ap (λ (x : Candidate). offerOf most (m .sender) (m .destination) (m .cost) (m .link) (wordsOf (getD grids 0 []) (getD grids 1 []) (getD grids 2 []) (functionOf x)) x) is
+    ∙ ap (λ (x : Candidate). offerOf most (m .sender) (m .destination) (m .cost) (m .link) (wordsOf (getD grids 0 []) (getD grids 1 []) (getD grids 2 []) (candidateFunction x)) x) is

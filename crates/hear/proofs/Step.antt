@@ -13,12 +13,12 @@ use Rattle.lists.proofs.Counts.{howMany-more}
 use Rattle.relax.specs.Graph.{wins}
 use Rattle.bits.specs.Bits.{withAll}
 use Rattle.hear.specs.Hearing.{Gateway, Message, Rows, leader, leaderAt, offer, takes}
-use Rattle.hear.specs.Steps.{candidateOf, functionOf, placeOf, offerOf, Turn}
+use Rattle.hear.specs.Steps.{candidateOf, candidateFunction, placeOf, offerOf, Turn}
 use Rattle.hear.specs.declared.Candidate.{Candidate}
 use Rattle.hear.specs.declared.Offer.{Offer}
 use Rattle.hear.proofs.Sources.{led}
 use Rattle.hear.proofs.Leaders.{leader-found}
-use Rattle.hear.proofs.Candidates.{turnOf, function-low, function-turn, only, leads}
+use Rattle.hear.proofs.Candidates.{turnOfFunction, function-low, function-turn, only, leads}
 use Rattle.hear.proofs.Below.{takesBelow, costBelow, wayBelow, waitingBelow, rowsBelow, takenBelow, place-div, place-mod, place-within, place-only, rows-eq, rows-same, taken-same, same-takes}
 
 -- the row at the offer's place with its cost, its way and the waiting bits
@@ -35,14 +35,14 @@ inTurn g m i = candidateOf (g .p) (m .number) i
 
 -- and what it offers
 abbrev pub offerIn : Gateway → Message → ℕ → Offer
-offerIn g m i = offerOf (g .most) (m .sender) (m .destination) (m .cost) (m .link) (g .words (functionOf (inTurn g m i))) (inTurn g m i)
+offerIn g m i = offerOf (g .most) (m .sender) (m .destination) (m .cost) (m .link) (g .words (candidateFunction (inTurn g m i))) (inTurn g m i)
 
 -- its place is one, where there are rows
 pub offer-inside : (g : Gateway) (m : Message) (i long : ℕ) → 1 ≤ g .most → (m .destination + 1) * g .most ≤ long → offerIn g m i .place < long
 unfolding offerOf
 offer-inside g m i long some wide =
     let n = inTurn g m i .number in
-    let f = functionOf (inTurn g m i) in
+    let f = candidateFunction (inTurn g m i) in
     bool-cases (ltb 0 (g .words f) && (leb 1 n && leb n (g .most)))
     (λ e.
     let b = both (leb 1 n) (leb n (g .most)) (both (ltb 0 (g .words f)) (leb 1 n && leb n (g .most)) e .1) in
@@ -55,7 +55,7 @@ module _ (g : Gateway) (m : Message) (i : ℕ) (z : Turn (g .p) (m .number) i) (
   n = inTurn g m i .number
 
   abbrev f : ℕ
-  f = functionOf (inTurn g m i)
+  f = candidateFunction (inTurn g m i)
 
   -- the row that can change
   abbrev place : ℕ
@@ -84,7 +84,7 @@ module _ (g : Gateway) (m : Message) (i : ℕ) (z : Turn (g .p) (m .number) i) (
 
     not-yet : takesBelow g m i (r .costs) place ≡ false
     unfolding takesBelow
-    not-yet = simp (leader-place, le-ltb (turnOf (g .p) f) i (omega (arith, function-turn g m i z within bounded)), and-false)
+    not-yet = simp (leader-place, le-ltb (turnOfFunction (g .p) f) i (omega (arith, function-turn g m i z within bounded)), and-false)
 
     still : getD (rowsBelow g m i r .costs) place 0 ≡ getD (r .costs) place 0
     unfolding rowsBelow costBelow
@@ -105,7 +105,7 @@ module _ (g : Gateway) (m : Message) (i : ℕ) (z : Turn (g .p) (m .number) i) (
             eq-eqb (place / g .most) (m .destination) (place-div (g .most) (m .destination) n some low),
             lt-ltb f 192 (function-low g m i z within bounded),
             lt-ltb (m .cost + m .link + (g .words f - 1)) (getD (r .costs) place 0) won,
-            lt-ltb (turnOf (g .p) f) (i + 1) (omega (arith, function-turn g m i z within bounded)),
+            lt-ltb (turnOfFunction (g .p) f) (i + 1) (omega (arith, function-turn g m i z within bounded)),
           )
 
       rows-set : rowsWith made (g .neighbours) (rowsBelow g m i r) ≡ rowsBelow g m (i + 1) r

@@ -6,18 +6,19 @@ use mathlib.Core.Bool.{Bool, cond, _&&_}
 use lib.ListN.{length, getD}
 use lib.Dec.{leb, ltb, eqb}
 use Rattle.lists.specs.Lists.{unless}
+use Rattle.stacks.specs.Stacks.{oneTo}
 use Rattle.functions.specs.Functions.{kindOf, fromOf, toOf}
 use Rattle.hear.specs.Hearing.{Gateway, Message, Rows, heard, taken}
 use Rattle.hear.specs.declared.Heard.{Heard}
 
 -- one node's three grids as words: row a and column b of the grid of the function's kind
-abbrev pub gridOf : ℕ → List (List ℕ) → List (List ℕ) → List (List ℕ) → List (List ℕ)
-gridOf zero convert wrap unwrap = convert
-gridOf (suc zero) convert wrap unwrap = wrap
-gridOf (suc (suc k)) convert wrap unwrap = unwrap
+abbrev pub gridOfKind : ℕ → List (List ℕ) → List (List ℕ) → List (List ℕ) → List (List ℕ)
+gridOfKind zero convert wrap unwrap = convert
+gridOfKind (suc zero) convert wrap unwrap = wrap
+gridOfKind (suc (suc k)) convert wrap unwrap = unwrap
 
 abbrev pub wordsOf : List (List ℕ) → List (List ℕ) → List (List ℕ) → ℕ → ℕ
-wordsOf convert wrap unwrap f = getD (getD (gridOf (kindOf f) convert wrap unwrap) (fromOf f) []) (toOf f) 0
+wordsOf convert wrap unwrap f = getD (getD (gridOfKind (kindOf f) convert wrap unwrap) (fromOf f) []) (toOf f) 0
 
 abbrev pub gatewayOf : ℕ → ℕ → ℕ → List (List ℕ) → List (List ℕ) → List (List ℕ) → Gateway
 gatewayOf p most neighbours convert wrap unwrap = record { p = p; most = most; neighbours = neighbours; words = wordsOf convert wrap unwrap }
@@ -31,7 +32,7 @@ rowsOf costs ways waiting = record { costs = costs; ways = ways; waiting = waiti
 -- sizes in range, and numbers of nodes and of a stack in range
 abbrev pub goodNumbers : ℕ → ℕ → ℕ → ℕ → ℕ → Bool
 goodNumbers p most sender destination number =
-    leb 1 p && (leb p 8 && (leb most 16384 && (ltb sender 32 && (ltb destination 32 && (leb 1 number && leb number most)))))
+    leb 1 p && (leb p 8 && (leb most 16384 && (ltb sender 32 && (ltb destination 32 && oneTo most number))))
 
 -- rows enough for the destination, and as many ways and waiting words as costs
 abbrev pub goodLengths : ℕ → ℕ → ℕ → ℕ → ℕ → Bool

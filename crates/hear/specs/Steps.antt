@@ -2,8 +2,8 @@
 use Prim.Native.Nat.{ℕ, _+_, _-_, _*_, _≤_, _<_}
 use mathlib.Core.Path.{_≡_}
 use mathlib.Core.Bool.{cond, _&&_}
-use lib.Dec.{leb, ltb}
-use Rattle.stacks.specs.Stacks.{top, rest}
+use lib.Dec.{ltb}
+use Rattle.stacks.specs.Stacks.{oneTo, top, rest}
 use Rattle.hear.specs.Answers.{ceiling}
 use Rattle.hear.specs.declared.Candidate.{Candidate}
 use Rattle.hear.specs.declared.Offer.{Offer}
@@ -17,8 +17,8 @@ candidateOf p number i =
     (record { kind = 1; from = top p (rest p number); to = top p number; number = rest p number }))
 
 -- "A function's number is 64 x kind + 8a + b"
-abbrev pub functionOf : Candidate → ℕ
-functionOf c = 64 * c .kind + 8 * c .from + c .to
+abbrev pub candidateFunction : Candidate → ℕ
+candidateFunction c = 64 * c .kind + 8 * c .from + c .to
 
 -- ---- one offer
 -- where the row of a destination and a stack number stands
@@ -28,8 +28,8 @@ placeOf most destination n = destination * most + (n - 1)
 -- what a candidate with this word offers to its row; where the gateway can't or there is no such row, what no row takes
 unfoldable pub offerOf : ℕ → ℕ → ℕ → ℕ → ℕ → ℕ → Candidate → Offer
 offerOf most sender destination cost link word c =
-    cond (ltb 0 word && (leb 1 (c .number) && leb (c .number) most))
-    (record { place = placeOf most destination (c .number); cost = cost + link + (word - 1); way = 256 * sender + functionOf c })
+    cond (ltb 0 word && oneTo most (c .number))
+    (record { place = placeOf most destination (c .number); cost = cost + link + (word - 1); way = 256 * sender + candidateFunction c })
     (record { place = 0; cost = 4294967295; way = 65535 })
 
 -- ---- what the private functions may count on

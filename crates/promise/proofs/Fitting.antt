@@ -13,7 +13,7 @@ use Rattle.lists.proofs.Tables.{getD-tabulate}
 use Rattle.bits.specs.Bits.{lowest, without, onesOf}
 use Rattle.bits.proofs.Counts.{ones-zero}
 use Rattle.bits.proofs.Laws.{without-fits, withAll-fits}
-use Rattle.words.specs.Words.{onesIn, firstFrom, firstIn}
+use Rattle.words.specs.Words.{onesIn, firstSetFrom, firstIn}
 use Rattle.words.specs.declared.Found.{Found}
 use Rattle.network.specs.Network.{Network, neighbours, refusalOf}
 use Rattle.network.proofs.Laws.{neighbours-fits}
@@ -25,13 +25,13 @@ use Rattle.promise.specs.Routes.{Reached, begun, delivery}
 use Rattle.promise.proofs.Reaching.{delivery-cases, sized}
 
 -- ---- a word without bits, and a list of such words
-none-found : (i : ℕ) (ws : List ℕ) → firstFrom i ws ≡ Found.Nowhere → onesIn ws ≡ 0
-unfolding firstFrom onesIn
+none-found : (i : ℕ) (ws : List ℕ) → firstSetFrom i ws ≡ Found.Nowhere → onesIn ws ≡ 0
+unfolding firstSetFrom onesIn
 none-found i [] e = refl
 none-found i (w ∷ ws) e = go (eqb w 0) refl (none-found (suc i) ws) e
   where
-    go : (b : Bool) → eqb w 0 ≡ b → (firstFrom (suc i) ws ≡ Found.Nowhere → onesIn ws ≡ 0)
-        → cond b (firstFrom (suc i) ws) (Found.At i (lowest w)) ≡ Found.Nowhere → onesOf w + onesIn ws ≡ 0
+    go : (b : Bool) → eqb w 0 ≡ b → (firstSetFrom (suc i) ws ≡ Found.Nowhere → onesIn ws ≡ 0)
+        → cond b (firstSetFrom (suc i) ws) (Found.At i (lowest w)) ≡ Found.Nowhere → onesOf w + onesIn ws ≡ 0
     go true z rest d = omega (arith, rest d, ap onesOf (eqb-true w 0 z), ones-zero)
     go false z rest d = absurd (let z : _≡_ {A = ℕ} 0 1 = cc in omega arith)
 

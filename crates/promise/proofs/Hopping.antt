@@ -33,19 +33,19 @@ use Rattle.promise.proofs.Looking.{packet, numbered}
 -- ---- how many rows for the destination D cost at most c
 module _ (net : Network) (t : Table) (D : ℕ) where
   pub rank : ℕ → ℕ
-  rank c = sum (rowsEach net) (λ v. one (leb (bridged.costOf net D t v) c))
+  rank c = sum (rowsEach net) (λ v. one (leb (bridged.vertexCost net D t v) c))
 
   pub rank-most : (c : ℕ) → rank c ≤ rowsEach net
   unfolding rank
-  rank-most c = omega (arith, sum-most (rowsEach net) 1 _ (λ v. bit-one (leb (bridged.costOf net D t v) c)))
+  rank-most c = omega (arith, sum-most (rowsEach net) 1 _ (λ v. bit-one (leb (bridged.vertexCost net D t v) c)))
 
   -- a row counts for its own cost, and for none below
-  rank-lt : (c v : ℕ) → v < rowsEach net → c < bridged.costOf net D t v → rank c < rank (bridged.costOf net D t v)
+  rank-lt : (c v : ℕ) → v < rowsEach net → c < bridged.vertexCost net D t v → rank c < rank (bridged.vertexCost net D t v)
   unfolding rank
   rank-lt c v b h =
-      let e = bridged.costOf net D t v in
+      let e = bridged.vertexCost net D t v in
       sum-lt (rowsEach net) _ _
-      (λ i. let a = bridged.costOf net D t i in bit-le (leb a c) (leb a e) (λ p. le-leb a e (omega (arith, leb-true a c p))))
+      (λ i. let a = bridged.vertexCost net D t i in bit-le (leb a c) (leb a e) (λ p. le-leb a e (omega (arith, leb-true a c p))))
       v b (bit-lt (leb e c) (leb e e) (lt-leb e c h) (le-leb e e (le-refl e)))
 
 module _ (net : Network) (ok : Network16 net) (t : Table) (r : Reached net t) (D : ℕ) (d : D < net .n) where

@@ -21,7 +21,7 @@ use Rattle.gateways.proofs.Laws.{weight-some}
 use Rattle.table.specs.Table.{Table, noRow, ceiling, rowsEach, place, home, vertex}
 use Rattle.table.proofs.Rows.{Stack, vertex-node, vertex-number, vertex-below}
 use Rattle.forward.specs.Forward.{costOf, nextOf, functionOf, resultOf, okRow}
-use Rattle.bridge.specs.Bridge.{homeOf, weightOf, graphOf, rowOf, leadsTo, stateOf}
+use Rattle.bridge.specs.Bridge.{homeOf, weightOf, graphOf, vertexPlace, leadsTo, stateOf}
 use Rattle.bridge.specs.Bridge as bridged
 use Rattle.bridge.proofs.States.{cost-inside, next-inside}
 use Rattle.promise.specs.Routes.{Network16, Reached}
@@ -30,17 +30,17 @@ use Rattle.promise.proofs.Ways.{Away, led}
 
 -- ---- the row of U for D and the stack number N, as the theory sees it
 module _ (net : Network) (U D N : ℕ) (u : U < net .n) (n : Stack net N) where
-  pub row-is : rowOf net D (vertex net U N) ≡ place net U D N
+  pub row-is : vertexPlace net D (vertex net U N) ≡ place net U D N
   row-is = rw (vertex-node net U N n, vertex-number net U N n) refl
 
-  pub cost-is : (t : Table) → bridged.costOf net D t (vertex net U N) ≡ costOf net t U D N
+  pub cost-is : (t : Table) → bridged.vertexCost net D t (vertex net U N) ≡ costOf net t U D N
   cost-is t = cost-inside net D t (vertex net U N) (vertex-below net U N u n) ∙ ap (λ (i : ℕ). getD (t .cost) i 0) row-is
 
   pub home-is : homeOf net D (vertex net U N) ≡ home net U D N
   unfolding homeOf
   home-is = simp (lt-ltb (vertex net U N) (rowsEach net) (vertex-below net U N u n), vertex-node net U N n, vertex-number net U N n)
 
-  pub next-is : (t : Table) → bridged.nextOf net D t (vertex net U N) ≡ vertex net (nextOf net t U D N) (resultOf net t U D N)
+  pub next-is : (t : Table) → bridged.vertexNext net D t (vertex net U N) ≡ vertex net (nextOf net t U D N) (resultOf net t U D N)
   unfolding leadsTo
   next-is t =
       next-inside net D t (vertex net U N) (vertex-below net U N u n)
@@ -55,7 +55,7 @@ module _ (net : Network) (ok : Network16 net) (t : Table) (r : Reached net t) (U
       omega (
         arith,
         e,
-        theory.ceiling (graphOf net D) (bridge net ok D d .lawful) (reached net ok D d r) (vertex net U N) (λ (z : bridged.costOf net D t (vertex net U N) ≡ noRow). priced (sym e ∙ z)),
+        theory.ceiling (graphOf net D) (bridge net ok D d .lawful) (reached net ok D d r) (vertex net U N) (λ (z : bridged.vertexCost net D t (vertex net U N) ≡ noRow). priced (sym e ∙ z)),
         mul-le-mul-right 131069 few,
       )
 
@@ -96,7 +96,7 @@ module _ (net : Network) (ok : Network16 net) (t : Table) (r : Reached net t) (U
         let w = present-nodes net U W (l .linked) .1 in
         let hop : weightOf net (vertex net U N) (vertex net W M) ≡ weight net U f W = bridge net ok D (a .destination) .function-hop U W f N M (l .can-it) (l .linked) (l .makes) in
         let next = next-is net U D N (a .node) (a .stack) t in
-        let pays : bridged.costOf net D t (vertex net W M) + weightOf net (vertex net U N) (vertex net W M) ≤ bridged.costOf net D t (vertex net U N) = rw next at (hop-there .pays) in
+        let pays : bridged.vertexCost net D t (vertex net W M) + weightOf net (vertex net U N) (vertex net W M) ≤ bridged.vertexCost net D t (vertex net U N) = rw next at (hop-there .pays) in
         record {
           can-it = l .can-it;
           linked = l .linked;

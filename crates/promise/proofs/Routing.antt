@@ -17,7 +17,7 @@ use Rattle.network.specs.Network.{Network, present}
 use Rattle.network.proofs.Laws.{valid}
 use Rattle.gateways.specs.Gateways.{can, weight}
 use Rattle.gateways.proofs.Laws.{can-function, accepts-below, weight-some}
-use Rattle.table.specs.Table.{rowsEach, home, vertex, nodeOf, numberOf}
+use Rattle.table.specs.Table.{rowsEach, home, vertex, vertexNode, vertexNumber}
 use Rattle.table.proofs.Rows.{vertex-node, vertex-number}
 use Rattle.bridge.specs.Bridge.{homeOf, weightOf, graphOf}
 use Rattle.promise.specs.Routes.{Network16, Route, arrived, hop}
@@ -63,29 +63,29 @@ module _ (net : Network) (ok : Network16 net) (D : ℕ) (d : D < net .n) where
   -- ---- and back
   -- the packet that stands at a vertex
   abbrev stackAt : ℕ → List ℕ
-  stackAt v = stackOf (net .p) (net .h) (numberOf net v)
+  stackAt v = stackOf (net .p) (net .h) (vertexNumber net v)
 
-  home-test : (v : ℕ) → homeOf net D v ≡ true → home net (nodeOf net v) D (numberOf net v) ≡ true
+  home-test : (v : ℕ) → homeOf net D v ≡ true → home net (vertexNode net v) D (vertexNumber net v) ≡ true
   unfolding homeOf
-  home-test v e = both (ltb v (rowsEach net)) (home net (nodeOf net v) D (numberOf net v)) e .1
+  home-test v e = both (ltb v (rowsEach net)) (home net (vertexNode net v) D (vertexNumber net v)) e .1
 
-  home-route : (v : ℕ) → homeOf net D v ≡ true → Route net D (nodeOf net v) (stackAt v) 0
+  home-route : (v : ℕ) → homeOf net D v ≡ true → Route net D (vertexNode net v) (stackAt v) 0
   home-route v e =
-      let h = at-home net ok (nodeOf net v) D (numberOf net v) (omega arith) (home-test v e) in
-      subst (λ (s : List ℕ). Route net D (nodeOf net v) s 0) (sym (h .one))
-      (subst (λ (X : ℕ). Route net D X ((numberOf net v - 1) ∷ []) 0) (sym (h .there)) (arrived (numberOf net v - 1) (h .accepted)))
+      let h = at-home net ok (vertexNode net v) D (vertexNumber net v) (omega arith) (home-test v e) in
+      subst (λ (s : List ℕ). Route net D (vertexNode net v) s 0) (sym (h .one))
+      (subst (λ (X : ℕ). Route net D X ((vertexNumber net v - 1) ∷ []) 0) (sym (h .there)) (arrived (vertexNumber net v - 1) (h .accepted)))
 
-  hop-route : (u v k : ℕ) → 0 < weightOf net u v → Route net D (nodeOf net v) (stackAt v) k → Route net D (nodeOf net u) (stackAt u) (k + weightOf net u v)
+  hop-route : (u v k : ℕ) → 0 < weightOf net u v → Route net D (vertexNode net v) (stackAt v) k → Route net D (vertexNode net u) (stackAt u) (k + weightOf net u v)
   hop-route u v k there rest =
       let w = bridge net ok D d .hop-function u v there in
       let f = w .0 in
       let by = w .1 in
-      let l = leads (net .p) (net .h) f (numberOf net u) (numberOf net v) (by .makes) in
-      let fits = stack-in-range (net .p) (net .h) (l .size) (numberOf net u) (l .from) in
-      let sum : weight net (nodeOf net u) f (nodeOf net v) + k ≡ k + weightOf net u v = omega (arith, by .weighs) in
-      subst (Route net D (nodeOf net u) (stackAt u)) sum (hop (nodeOf net u) (nodeOf net v) f k (stackAt u) (stackAt v) (by .has-it) (by .linked) fits (l .makes) rest)
+      let l = leads (net .p) (net .h) f (vertexNumber net u) (vertexNumber net v) (by .makes) in
+      let fits = stack-in-range (net .p) (net .h) (l .size) (vertexNumber net u) (l .from) in
+      let sum : weight net (vertexNode net u) f (vertexNode net v) + k ≡ k + weightOf net u v = omega (arith, by .weighs) in
+      subst (Route net D (vertexNode net u) (stackAt u)) sum (hop (vertexNode net u) (vertexNode net v) f k (stackAt u) (stackAt v) (by .has-it) (by .linked) fits (l .makes) rest)
 
-  pub route-back : {v k : ℕ} → theory.Route (graphOf net D) v k → Route net D (nodeOf net v) (stackAt v) k
+  pub route-back : {v k : ℕ} → theory.Route (graphOf net D) v k → Route net D (vertexNode net v) (stackAt v) k
   route-back (theory.here {v = v} e) = home-route v e
   route-back (theory.via {u = u} {v = v} {k = k} there rest) = hop-route u v k there (route-back rest)
 

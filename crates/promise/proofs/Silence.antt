@@ -16,8 +16,8 @@ use Rattle.bits.proofs.Counts.{ones-none}
 use Rattle.words.specs.Words.{onesIn}
 use Rattle.network.specs.Network.{Network}
 use Rattle.network.proofs.Laws.{valid, present-nodes}
-use Rattle.table.specs.Table.{Table, rowsEach, nodeOf}
-use Rattle.bridge.specs.Bridge.{graphOf, rowOf, waitingOf, stateOf}
+use Rattle.table.specs.Table.{Table, rowsEach, vertexNode}
+use Rattle.bridge.specs.Bridge.{graphOf, vertexPlace, vertexWaiting, stateOf}
 use Rattle.bridge.proofs.States.{waiting-inside, waiting-outside}
 use Rattle.promise.specs.Routes.{Network16, Reached}
 use Rattle.promise.specs.Routes as routes
@@ -32,14 +32,14 @@ words-none (w ∷ ws) e (suc i) v b = words-none ws (omega arith) i v b
 
 module _ (net : Network) (ok : Network16 net) (D : ℕ) (d : D < net .n) (t : Table) (r : Reached net t) (q : routes.Quiet net t) where
   -- a message waits only for a neighbour, and so for a node below 32
-  few : (v U : ℕ) → waitingOf net D t v U ≡ true → U < 32
+  few : (v U : ℕ) → vertexWaiting net D t v U ≡ true → U < 32
   few v U e =
       let w = waits (graphOf net D) (bridge net ok D d .lawful) (reached net ok D d r) v U e in
-      omega (arith, present-nodes net (nodeOf net v) U (w .sent) .1, valid net (ok .valid) .few)
+      omega (arith, present-nodes net (vertexNode net v) U (w .sent) .1, valid net (ok .valid) .few)
 
   pub quiet : Quiet (stateOf net D t)
   quiet v U = by-cases (decLt v (rowsEach net))
-      (λ b. bool-cases (waitingOf net D t v U)
-      (λ e. waiting-inside net D t v U b ∙ words-none (t .waiting) q (rowOf net D v) U (few v U e))
+      (λ b. bool-cases (vertexWaiting net D t v U)
+      (λ e. waiting-inside net D t v U b ∙ words-none (t .waiting) q (vertexPlace net D v) U (few v U e))
       (λ e. e))
       (λ n. waiting-outside net D t v U (omega arith))

@@ -16,7 +16,7 @@ use Rattle.table.specs.Table.{Table, nodeAt, destinationAt, numberAt, offersTak
 use Rattle.table.specs.Answers.{refusal, stepRefusal}
 use Rattle.table.specs.Run.{Outcome, Runs, ends, steps, runOf}
 use Rattle.run.specs.Flags.{Flagged}
-use Rattle.run.specs.Turns.{Prepared, turnOf, turnAt, turnAnswer, Turned, onward}
+use Rattle.run.specs.Turns.{Prepared, turnOf, turnAt, turnAnswer, Turned, continued}
 use Rattle.run.specs.declared.turns.Turn.{Turn}
 use Rattle.table.specs.declared.Delivered.{Delivered}
 use Rattle.table.specs.declared.Ran.{Ran}
@@ -87,7 +87,7 @@ module _ (net : Network) (s k : ℕ) (t₀ : Table) where
         few = omega (arith, q .few, offers-few net t x right turned);
       }
 
-  ran : (d o r : ℕ) (t : Table) → steps net k t₀ ≡ onward d o (ends r t) → Runs (steps net k t₀) (record { done = d; offers = o; refused = r }) t
+  ran : (d o r : ℕ) (t : Table) → steps net k t₀ ≡ continued d o (ends r t) → Runs (steps net k t₀) (record { done = d; offers = o; refused = r }) t
   ran d o r t e = record {
     done = omega (arith, ap (λ (x : Outcome). x .done) e);
     offers = omega (arith, ap (λ (x : Outcome). x .offers) e);

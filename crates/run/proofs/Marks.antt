@@ -14,7 +14,7 @@ use Rattle.lists.proofs.Counts.{howMany-zero}
 use Rattle.bits.proofs.Laws.{without-le}
 use Rattle.network.specs.Network.{Network, stacks}
 use Rattle.hear.specs.Hearing.{takes, taken}
-use Rattle.table.specs.Table.{Table, Sized, rowsAll, place, vertex, nodeAt, destinationAt, numberAt, rowsOf, gateway, message, cleared, delivered, offersTaken}
+use Rattle.table.specs.Table.{Table, Sized, rowsAll, place, vertex, nodeAt, destinationAt, numberAt, rowsAt, gateway, message, cleared, delivered, offersTaken}
 use Rattle.table.specs.Answers.{stepRefusal}
 use Rattle.run.specs.Flags.{Flagged}
 use Rattle.run.specs.Turns.{flagsAfter}
@@ -60,7 +60,7 @@ module _ (net : Network) (t : Table) (Q U D N : ℕ) (sized : Sized net t) (made
   unfolding offersTaken taken
   none-took zero-taken E M e m =
       sym (takes-took net t Q U D N sized (g .receiver) E M e m)
-      ∙ howMany-zero (length (rowsOf net U (cleared net t Q U D N) .costs)) (takes (gateway net U) (message net t Q U D N) (rowsOf net U (cleared net t Q U D N) .costs)) zero-taken
+      ∙ howMany-zero (length (rowsAt net U (cleared net t Q U D N) .costs)) (takes (gateway net U) (message net t Q U D N) (rowsAt net U (cleared net t Q U D N) .costs)) zero-taken
       (vertex net E M) (omega (arith, rows-long net t Q U D N sized (g .receiver), vertex-below net E M e m))
 
   -- ---- so the flags stay right

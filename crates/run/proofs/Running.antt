@@ -12,7 +12,7 @@ use Rattle.table.specs.Answers.{stepRefusal}
 use Rattle.table.specs.Run.{Outcome, after, ends, turn, steps}
 use Rattle.table.specs.declared.Delivered.{Delivered}
 use Rattle.step.specs.InNetwork.{stepTable}
-use Rattle.run.specs.Turns.{turnOf, turnAt, tableAt, turnAnswer, turnTable, onward}
+use Rattle.run.specs.Turns.{turnOf, turnAt, tableAt, turnAnswer, turnTable, continued}
 use Rattle.run.specs.declared.turns.Turn.{Turn}
 
 -- two outcomes are equal by their parts
@@ -55,7 +55,7 @@ module _ (net : Network) (t : Table) (rest : Table → Outcome) where
 module _ (net : Network) (k : ℕ) (t₀ : Table) where
   pub record Going (d o : ℕ) (t : Table) : Type 0 where
     pub within : d ≤ k
-    pub whole : steps net k t₀ ≡ onward d o (steps net (k - d) t)
+    pub whole : steps net k t₀ ≡ continued d o (steps net (k - d) t)
 
   pub starts : Going 0 0 t₀
   starts =
@@ -63,7 +63,7 @@ module _ (net : Network) (k : ℕ) (t₀ : Table) where
       let same : steps net k t₀ ≡ steps net (k - 0) t₀ = ap (λ (m : ℕ). steps net m t₀) all in
       record {
         within = omega arith;
-        whole = same ∙ outcome (steps net (k - 0) t₀) (onward 0 0 (steps net (k - 0) t₀)) (omega arith) (omega arith) refl refl;
+        whole = same ∙ outcome (steps net (k - 0) t₀) (continued 0 0 (steps net (k - 0) t₀)) (omega arith) (omega arith) refl refl;
       }
 
   more-left : (d : ℕ) → d < k → k - d ≡ suc (k - (d + 1))
@@ -74,16 +74,16 @@ module _ (net : Network) (k : ℕ) (t₀ : Table) where
     within = omega arith;
     whole =
         g .whole
-        ∙ ap (onward d o) (ap (λ (m : ℕ). steps net m t) (more-left d low) ∙ offers-at net t (steps net (k - (d + 1))) (firstIn (t .waiting)) x e)
+        ∙ ap (continued d o) (ap (λ (m : ℕ). steps net m t) (more-left d low) ∙ offers-at net t (steps net (k - (d + 1))) (firstIn (t .waiting)) x e)
         ∙ outcome _ _ (omega arith) (omega arith) refl refl;
   }
 
-  pub stops : (d o r : ℕ) (t : Table) → d < k → Going d o t → turnAnswer net t ≡ Turn.Ends r → steps net k t₀ ≡ onward d o (ends r t)
+  pub stops : (d o r : ℕ) (t : Table) → d < k → Going d o t → turnAnswer net t ≡ Turn.Ends r → steps net k t₀ ≡ continued d o (ends r t)
   stops d o r t low g e =
-      g .whole ∙ ap (onward d o) (ap (λ (m : ℕ). steps net m t) (more-left d low) ∙ ends-at net t (steps net (k - (d + 1))) (firstIn (t .waiting)) r e .0)
+      g .whole ∙ ap (continued d o) (ap (λ (m : ℕ). steps net m t) (more-left d low) ∙ ends-at net t (steps net (k - (d + 1))) (firstIn (t .waiting)) r e .0)
 
-  pub all-done : (d o : ℕ) (t : Table) → k ≤ d → Going d o t → steps net k t₀ ≡ onward d o (ends 0 t)
-  all-done d o t high g = g .whole ∙ ap (onward d o) (ap (λ (m : ℕ). steps net m t) (let z : k - d ≡ 0 = omega arith in z))
+  pub all-done : (d o : ℕ) (t : Table) → k ≤ d → Going d o t → steps net k t₀ ≡ continued d o (ends 0 t)
+  all-done d o t high g = g .whole ∙ ap (continued d o) (ap (λ (m : ℕ). steps net m t) (let z : k - d ≡ 0 = omega arith in z))
 
 -- a turn that ends the run leaves the table
 pub ends-table : (net : Network) (t : Table) (r : ℕ) → turnAnswer net t ≡ Turn.Ends r → turnTable net t ≡ t

@@ -66,5 +66,5 @@ pub record Turned (net : Network) (s : ℕ) (t : Table) (answer : Turn) (after :
   pub flagged : Flagged (net .n) s flags (after .waiting)
 
 -- a run that goes on after d deliveries with o offers
-abbrev pub onward : ℕ → ℕ → Outcome → Outcome
-onward d o rest = record { done = d + rest .done; offers = o + rest .offers; refused = rest .refused; table = rest .table }
+abbrev pub continued : ℕ → ℕ → Outcome → Outcome
+continued d o rest = record { done = d + rest .done; offers = o + rest .offers; refused = rest .refused; table = rest .table }

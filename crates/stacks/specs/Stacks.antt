@@ -32,9 +32,13 @@ abbrev pub count : ℕ → ℕ → ℕ
 count p zero = 0
 count p (suc h) = count p h + p ^ suc h
 
--- a number from 1 to S. ("The numbers are exactly 1 to S": proofs/Laws.antt has the four laws of that.)
+-- a number from 1 to s
+abbrev pub oneTo : ℕ → ℕ → Bool
+oneTo s n = leb 1 n && leb n s
+
+-- "The numbers are exactly 1 to S." (proofs/Laws.antt has the four laws of that.)
 unfoldable pub okNumber : ℕ → ℕ → ℕ → Bool
-okNumber p h n = leb 1 n && leb n (count p h)
+okNumber p h n = oneTo (count p h) n
 
 -- The last step of the numbering taken back: the top of the stack that has a number, and the number of what is below the top.
 abbrev pub top : ℕ → ℕ → ℕ

@@ -18,16 +18,16 @@ use Rattle.hear.specs.Hearing.{Gateway}
 use Rattle.hear.specs.Answers.{gatewayOf}
 use Rattle.hear.specs.Answers as hearing
 use Rattle.hear.proofs.Laws.{Alike, heard-same, taken-same}
-use Rattle.table.specs.Table.{Table, Sized, rowsOf, gateway, message, cleared, delivered, offersTaken}
+use Rattle.table.specs.Table.{Table, Sized, rowsAt, gateway, message, cleared, delivered, offersTaken}
 use Rattle.table.specs.Answers.{stepRefusal}
 use Rattle.table.specs.declared.Delivered.{Delivered}
 use Rattle.table.proofs.Deliveries.{goes}
-use Rattle.step.specs.Step.{okSizes, tableAfter, Steps}
+use Rattle.step.specs.Step.{okRows, tableAfter, Steps}
 use Rattle.step.specs.Step as step
 use Rattle.step.specs.InNetwork.{Equipped, stepAnswer, stepTable}
 
 -- ---- the gateway that `step` is told of is the one of the network
-grid-same : (k : ℕ) (n p : ℕ) (functions : List ℕ) (U : ℕ) → k < 3 → hearing.gridOf k (gridOf n p functions U 0) (gridOf n p functions U 1) (gridOf n p functions U 2) ≡ gridOf n p functions U k
+grid-same : (k : ℕ) (n p : ℕ) (functions : List ℕ) (U : ℕ) → k < 3 → hearing.gridOfKind k (gridOf n p functions U 0) (gridOf n p functions U 1) (gridOf n p functions U 2) ≡ gridOf n p functions U k
 grid-same zero n p functions U low = refl
 grid-same (suc zero) n p functions U low = refl
 grid-same (suc (suc zero)) n p functions U low = refl
@@ -50,8 +50,8 @@ alike-of net U near convert wrap unwrap e = simp (e .near-are, e .converts, e .w
 
 module _ (net : Network) (t : Table) (right : refusalOf net ≡ 0) (sized : Sized net t) (Q U D N : ℕ) where
   -- ---- it is refused what the delivery is refused
-  sizes-right : okSizes (net .n) (net .p) (stacks net) (length (t .cost)) (length (t .way)) (length (t .waiting)) ≡ true
-  unfolding okSizes
+  sizes-right : okRows (net .n) (net .p) (stacks net) (length (t .cost)) (length (t .way)) (length (t .waiting)) ≡ true
+  unfolding okRows
   sizes-right =
       let v = valid net right in
       let z = sizes (net .p) (net .h) (v .size) in
@@ -76,7 +76,7 @@ module _ (net : Network) (t : Table) (right : refusalOf net ≡ 0) (sized : Size
         go true q =
             let like = alike-of net U near convert wrap unwrap (own (goes net t Q U D N (eqb-true (stepRefusal net t Q U D N) 0 q) .receiver)) in
             let m = message net t Q U D N in
-            let r = rowsOf net U (cleared net t Q U D N) in (
+            let r = rowsAt net U (cleared net t Q U D N) in (
               x .answers ∙ simp (same-refusal, q) (ap Delivered.Rows (taken-same (hears (stacks net)) (gateway net U) m like r)),
               x .table ∙ simp (same-refusal, q, heard-same (hears (stacks net)) (gateway net U) m like r),
             )

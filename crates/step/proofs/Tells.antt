@@ -15,7 +15,7 @@ use Rattle.table.specs.Table.{Table, ceiling, placeIn, costIn}
 use Rattle.table.specs.Answers.{okMessageIn, waitsIn, okSenderIn, stepRefusalIn}
 use Rattle.table.proofs.Rows.{place-parts}
 use Rattle.table.proofs.Order.{four-first, five-next, seven-last, then-none, all-pass}
-use Rattle.step.specs.Step.{okSizes, refusalOf}
+use Rattle.step.specs.Step.{okRows, refusalOf}
 use Rattle.step.specs.Steps.{toldOf}
 use Rattle.step.specs.declared.Told.{Told}
 use Rattle.step.proofs.Tests.{Sizes, sizes, Numbers, numbers, room}
@@ -26,9 +26,9 @@ module _ (n p s link : ℕ) (t : Table) (Q U D N : ℕ) where
   refused k e some = simp (e, some)
 
   abbrev Fit : Type 0
-  Fit = okSizes n p s (length (t .cost)) (length (t .way)) (length (t .waiting)) ≡ true
+  Fit = okRows n p s (length (t .cost)) (length (t .way)) (length (t .waiting)) ≡ true
 
-  pub bad-sizes : okSizes n p s (length (t .cost)) (length (t .way)) (length (t .waiting)) ≡ false → Told.Refused 3 ≡ toldOf n p s link t Q U D N
+  pub bad-sizes : okRows n p s (length (t .cost)) (length (t .way)) (length (t .waiting)) ≡ false → Told.Refused 3 ≡ toldOf n p s link t Q U D N
   unfolding refusalOf
   bad-sizes e = refused 3 (simp e) refl
 
@@ -89,10 +89,10 @@ module _ (n p s link : ℕ) (t : Table) (Q U D N : ℕ) where
     pub priced : c ≤ ceiling
 
   good : refusalOf n p s link t Q U D N ≡ 0
-      → (okSizes n p s (length (t .cost)) (length (t .way)) (length (t .waiting)) ≡ true) × (okMessageIn n s Q U D N ≡ true) × (costIn n s t Q D N ≤ ceiling)
+      → (okRows n p s (length (t .cost)) (length (t .way)) (length (t .waiting)) ≡ true) × (okMessageIn n s Q U D N ≡ true) × (costIn n s t Q D N ≤ ceiling)
   unfolding refusalOf okSenderIn
   good z =
-      let r = none-refused (okSizes n p s (length (t .cost)) (length (t .way)) (length (t .waiting))) (stepRefusalIn n s link t Q U D N) z in
+      let r = none-refused (okRows n p s (length (t .cost)) (length (t .way)) (length (t .waiting))) (stepRefusalIn n s link t Q U D N) z in
       let a = all-pass n s link t Q U D N (r .1) in
       (r .0, a .0, leb-true (costIn n s t Q D N) ceiling (both (leb (costIn n s t Q D N) ceiling) (ltb 0 link) (a .2) .0))
 

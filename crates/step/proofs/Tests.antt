@@ -15,7 +15,7 @@ use borrow.Author.Tests.{ltb-true, leb-true, eqb-true}
 use borrow.Rule.Slice.PartMut.{midOf}
 use Rattle.lists.proofs.Tests.{both}
 use Rattle.table.specs.Answers.{okMessageIn}
-use Rattle.step.specs.Step.{okSizes}
+use Rattle.step.specs.Step.{okRows}
 
 -- ---- the tests as facts
 pub record Sizes (n p s costs ways waits : ℕ) : Type 0 where
@@ -27,8 +27,8 @@ pub record Sizes (n p s costs ways waits : ℕ) : Type 0 where
   pub ways-are : ways ≡ n * (n * s)
   pub waits-are : waits ≡ n * (n * s)
 
-pub sizes : (n p s costs ways waits : ℕ) → okSizes n p s costs ways waits ≡ true → Sizes n p s costs ways waits
-unfolding okSizes
+pub sizes : (n p s costs ways waits : ℕ) → okRows n p s costs ways waits ≡ true → Sizes n p s costs ways waits
+unfolding okRows
 sizes n p s costs ways waits e =
     let a = both (leb 1 p) (leb p 8 && (leb n 32 && (leb s 16384 && (eqb costs (n * (n * s)) && (eqb ways (n * (n * s)) && eqb waits (n * (n * s))))))) e in
     let b = both (leb p 8) (leb n 32 && (leb s 16384 && (eqb costs (n * (n * s)) && (eqb ways (n * (n * s)) && eqb waits (n * (n * s)))))) (a .1) in
@@ -54,8 +54,8 @@ module _ (n p s costs ways waits : ℕ) where
   abbrev lengths : Bool
   lengths = (eqb costs (n * (n * s)) && eqb ways (n * (n * s))) && eqb waits (n * (n * s))
 
-  pub sizes-by : (b : Bool) → bounds ≡ b → (b && lengths) ≡ okSizes n p s costs ways waits
-  unfolding okSizes
+  pub sizes-by : (b : Bool) → bounds ≡ b → (b && lengths) ≡ okRows n p s costs ways waits
+  unfolding okRows
   sizes-by b e = ap (λ (x : Bool). x && lengths) (sym e) ∙ simp and-assoc
 
   pub rows-fit : bounds ≡ true → Fits w64 (n * s) × Fits w64 (n * (n * s))
@@ -132,7 +132,7 @@ pub record Reads (n s Q D N costs waits : ℕ) : Type 0 where
   pub ends : Q * (n * s) + n * s ≤ costs
   pub low : D * s + (N - 1) < Q * (n * s) + n * s - Q * (n * s)
 
-pub reads : (n p s costs ways waits Q U D N : ℕ) → okSizes n p s costs ways waits ≡ true → okMessageIn n s Q U D N ≡ true → Reads n s Q D N costs waits
+pub reads : (n p s costs ways waits Q U D N : ℕ) → okRows n p s costs ways waits ≡ true → okMessageIn n s Q U D N ≡ true → Reads n s Q D N costs waits
 reads n p s costs ways waits Q U D N e g =
     let z = sizes n p s costs ways waits e in
     let r = room n p s costs ways waits Q U D N z (numbers n s Q U D N g) in
@@ -152,8 +152,8 @@ reads n p s costs ways waits Q U D N e g =
     }
 
 -- a part starts before it ends, and what its start and its length come to
-pub onward : (from k : ℕ) → from ≤ from + k
-onward from k = omega arith
+pub starts-before : (from k : ℕ) → from ≤ from + k
+starts-before from k = omega arith
 
 pub length-of : (from k : ℕ) → from + k - from ≡ k
 length-of from k = omega arith

@@ -12,15 +12,15 @@ use Rattle.table.specs.declared.Delivered.{Delivered}
 
 -- Refusal 3 but where this holds, for every size or length with which the rows cannot be counted: n nodes, p protocols and s stacks within
 -- their bounds, and three slices of n x n x s rows.
-unfoldable pub okSizes : ℕ → ℕ → ℕ → ℕ → ℕ → ℕ → Bool
-okSizes n p s costs ways waits =
+unfoldable pub okRows : ℕ → ℕ → ℕ → ℕ → ℕ → ℕ → Bool
+okRows n p s costs ways waits =
     leb 1 p && (leb p 8 && (leb n 32 && (leb s 16384
     && (eqb costs (n * (n * s)) && (eqb ways (n * (n * s)) && eqb waits (n * (n * s)))))))
 
 -- the first refusal that applies, and 0 where none does; the link back costs `back`
 unfoldable pub refusalOf : (n p s back : ℕ) (t : Table) (Q U D N : ℕ) → ℕ
 refusalOf n p s back t Q U D N =
-    unless (okSizes n p s (length (t .cost)) (length (t .way)) (length (t .waiting))) 3 (stepRefusalIn n s back t Q U D N)
+    unless (okRows n p s (length (t .cost)) (length (t .way)) (length (t .waiting))) 3 (stepRefusalIn n s back t Q U D N)
 
 -- the message from Q to U, which is the gateway g, about D and the stack number N
 module _ (n : ℕ) (g : Gateway) (back : ℕ) (t : Table) (Q U D N : ℕ) where

@@ -5,7 +5,7 @@ ghost use lib.ListN.{length, getD};
 ghost use Rattle.hear.specs.Answers.{gatewayOf};
 ghost use Rattle.table.specs.Table.{tableOf};
 ghost use Rattle.table.specs.Answers.{okMessageIn};
-ghost use Rattle.step.specs.Step.{okSizes, Steps};
+ghost use Rattle.step.specs.Step.{okRows, Steps};
 ghost use Rattle.step.specs.Steps.{toldOf, answerIn};
 use hear::Heard;
 use table::Delivered;
@@ -17,7 +17,7 @@ enum Told {
 }
 
 fn good_sizes(n: usize, p: usize, stacks: usize, costs: usize, ways: usize, waits: usize) -> bool
-    ensures { λ r. ⌜ r ≡ okSizes n p stacks costs ways waits ⌝ }
+    ensures { λ r. ⌜ r ≡ okRows n p stacks costs ways waits ⌝ }
 {
     if !((1 <= p) & (p <= 8) & (n <= 32) & (stacks <= 16384)) {
         return false;

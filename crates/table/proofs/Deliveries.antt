@@ -21,7 +21,7 @@ use Rattle.bits.specs.Bits.{has, without, withAll}
 use Rattle.network.specs.Network.{Network, stacks, link, present, neighbours}
 use Rattle.hear.specs.Hearing.{Message, Rows, leader, offer, takes, costAt, wayAt, waitingAt, heard, taken}
 use Rattle.hear.proofs.Laws.{heard-long, getD-heard-costs, getD-heard-ways, getD-heard-waiting}
-use Rattle.table.specs.Table.{Table, Sized, rowsIn, withRowsIn, clearedAt, vertex, ceiling, rowsEach, rowsAll, place, rowsOf, gateway, message, cleared, delivered, offersTaken}
+use Rattle.table.specs.Table.{Table, Sized, rowsIn, withRowsIn, clearedAt, vertex, ceiling, rowsEach, rowsAll, place, rowsAt, gateway, message, cleared, delivered, offersTaken}
 use Rattle.table.specs.Answers.{okMessageIn, waitsIn, okSenderIn, stepRefusal}
 use Rattle.table.proofs.Order.{all-pass}
 use Rattle.table.proofs.Rows.{Stack, vertex-node, vertex-number, vertex-below, place-split, place-below, part-long, part-read, put-long, put-here, put-there}
@@ -71,7 +71,7 @@ module _ (net : Network) (t : Table) (Q U D N : ℕ) where
 
   -- U's rows when the message comes, and when it is heard
   abbrev rows : Rows
-  rows = rowsOf net U (cleared net t Q U D N)
+  rows = rowsAt net U (cleared net t Q U D N)
 
   abbrev after : Rows
   after = heard (gateway net U) told rows
@@ -218,7 +218,7 @@ module _ (net : Network) (t : Table) (Q U D N : ℕ) (sized : Sized net t) where
 pub offers-most : (net : Network) (t : Table) (Q U D N : ℕ) → offersTaken net t Q U D N ≤ rowsEach net
 unfolding offersTaken taken rowsIn
 offers-most net t Q U D N =
-    le-trans (howMany-le (length (rowsOf net U (cleared net t Q U D N) .costs)) (takes (gateway net U) (message net t Q U D N) (rowsOf net U (cleared net t Q U D N) .costs)))
+    le-trans (howMany-le (length (rowsAt net U (cleared net t Q U D N) .costs)) (takes (gateway net U) (message net t Q U D N) (rowsAt net U (cleared net t Q U D N) .costs)))
     (take-le (rowsEach net) (drop (U * rowsEach net) (cleared net t Q U D N .cost)))
   where
     take-le : (k : ℕ) (l : List ℕ) → length (take k l) ≤ k

@@ -13,7 +13,7 @@ use borrow.Rule.Slice.PartMut.{midOf, putMid, same-len-mid}
 use Rattle.lists.proofs.Tables.{getD-put-before, getD-put-inside, getD-put-after}
 use Rattle.stacks.proofs.Tests.{Within}
 use Rattle.network.specs.Network.{Network, stacks}
-use Rattle.table.specs.Table.{placeIn, rowsEach, rowsAll, place, nodeAt, destinationAt, numberAt, vertex, nodeOf, numberOf}
+use Rattle.table.specs.Table.{placeIn, rowsEach, rowsAll, place, nodeAt, destinationAt, numberAt, vertex, vertexNode, vertexNumber}
 
 -- ---- two digits are told by the number that they make
 pub same-high : (s a b q r : ℕ) → q < s → r < s → a * s + q ≡ b * s + r → a ≡ b
@@ -31,22 +31,22 @@ module _ (net : Network) where
   pub low : {N : ℕ} → Stack N → N - 1 < stacks net
   low w = omega (arith, w .some, w .most)
 
-  pub vertex-node : (U N : ℕ) → Stack N → nodeOf net (vertex net U N) ≡ U
+  pub vertex-node : (U N : ℕ) → Stack N → vertexNode net (vertex net U N) ≡ U
   vertex-node U N w = digits-div U (low w)
 
-  pub vertex-number : (U N : ℕ) → Stack N → numberOf net (vertex net U N) ≡ N
+  pub vertex-number : (U N : ℕ) → Stack N → vertexNumber net (vertex net U N) ≡ N
   vertex-number U N w = omega (arith, digits-mod U (low w), w .some)
 
   pub vertex-below : (U N : ℕ) → U < net .n → Stack N → vertex net U N < rowsEach net
   vertex-below U N u w = digits-lt u (low w)
 
-  pub of-vertex : (v : ℕ) → vertex net (nodeOf net v) (numberOf net v) ≡ v
+  pub of-vertex : (v : ℕ) → vertex net (vertexNode net v) (vertexNumber net v) ≡ v
   of-vertex v = omega (arith, div-add-mod' v (stacks net))
 
   -- a vertex has a node and a stack
   pub record Vertex (v : ℕ) : Type 0 where
-    pub node : nodeOf net v < net .n
-    pub stack : Stack (numberOf net v)
+    pub node : vertexNode net v < net .n
+    pub stack : Stack (vertexNumber net v)
 
   pub is-vertex : (v : ℕ) → v < rowsEach net → Vertex v
   is-vertex v h = by-cases (decLt 0 (stacks net))

@@ -4,6 +4,7 @@ use mathlib.Core.Bool.{Bool, cond, _&&_}
 use lib.ListN.{length, getD}
 use lib.Dec.{leb, ltb, eqb}
 use Rattle.lists.specs.Lists.{unless}
+use Rattle.stacks.specs.Stacks.{oneTo}
 use Rattle.bits.specs.Bits.{has}
 use Rattle.words.specs.Words.{onesIn, firstIn}
 use Rattle.words.specs.declared.Found.{Found}
@@ -30,7 +31,7 @@ readyOf net costs ways waits =
 -- ---- deliver's refusals once the network and the table are found right, with n nodes and s stacks
 -- refusal 4: "node not below n, .. stack number 0 or above S"
 unfoldable pub okMessageIn : ℕ → ℕ → ℕ → ℕ → ℕ → ℕ → Bool
-okMessageIn n s Q U D N = ltb Q n && (ltb U n && (ltb D n && (leb 1 N && leb N s)))
+okMessageIn n s Q U D N = ltb Q n && (ltb U n && (ltb D n && oneTo s N))
 
 -- refusal 5: "the waiting bit is not set"
 unfoldable pub waitsIn : ℕ → ℕ → Table → ℕ → ℕ → ℕ → ℕ → Bool
@@ -116,7 +117,7 @@ deliveredRows (Delivered.Rows x) = x
 deliveredRows (Delivered.Refused r) = 0
 
 -- of the first message: sender, destination, stack number and receiver; a stack number of 0, which no message has, where none waits
-pub record Message : Type 0 where
+pub record FirstMessage : Type 0 where
   pub sender : ℕ
   pub destination : ℕ
   pub number : ℕ
@@ -127,7 +128,7 @@ firstRefusal (First.Message Q D N U) = 0
 firstRefusal First.Quiet = 0
 firstRefusal (First.Refused r) = r
 
-abbrev pub firstMessage : First → Message
+abbrev pub firstMessage : First → FirstMessage
 firstMessage (First.Message Q D N U) = record { sender = Q; destination = D; number = N; receiver = U }
 firstMessage First.Quiet = record { sender = 0; destination = 0; number = 0; receiver = 0 }
 firstMessage (First.Refused r) = record { sender = 0; destination = 0; number = 0; receiver = 0 }

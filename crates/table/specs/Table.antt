@@ -108,11 +108,11 @@ module _ (net : Network) where
   abbrev pub vertex : ℕ → ℕ → ℕ
   vertex U N = U * stacks net + (N - 1)
 
-  abbrev pub nodeOf : ℕ → ℕ
-  nodeOf v = v / stacks net
+  abbrev pub vertexNode : ℕ → ℕ
+  vertexNode v = v / stacks net
 
-  abbrev pub numberOf : ℕ → ℕ
-  numberOf v = v % stacks net + 1
+  abbrev pub vertexNumber : ℕ → ℕ
+  vertexNumber v = v % stacks net + 1
 
   -- of this network the homes
   unfoldable pub home : ℕ → ℕ → ℕ → Bool
@@ -130,8 +130,8 @@ module _ (net : Network) where
   }
 
   -- of this network the rows of one gateway
-  abbrev pub rowsOf : ℕ → Table → Rows
-  rowsOf U t = rowsIn rowsEach U t
+  abbrev pub rowsAt : ℕ → Table → Rows
+  rowsAt U t = rowsIn rowsEach U t
 
   -- the gateway U as the one that hears
   abbrev pub gateway : ℕ → Gateway

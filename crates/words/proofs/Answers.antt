@@ -9,7 +9,7 @@ use lib.Seq.{take-all}
 use Rattle.bits.specs.Bits.{lowest}
 use Rattle.words.specs.declared.Found.{Found}
 use Rattle.words.specs.declared.Found.the-variants.{Nowhere, At}
-use Rattle.words.specs.Words.{firstFrom, firstIn, firstBetween}
+use Rattle.words.specs.Words.{firstSetFrom, firstIn, firstBetween}
 use Rattle.words.proofs.Search.{first-here, first-next, first-end, first-cut}
 
 -- the words at from .. to - 1 are 0
@@ -77,4 +77,4 @@ first-at ws from to place v e = subst (Says ws from (min to (length ws))) e (fir
 -- a search of the whole list
 pub first-whole : (ws : List ℕ) → firstBetween 0 (length ws) ws ≡ firstIn ws
 unfolding firstBetween firstIn
-first-whole ws = ap (λ (xs : List ℕ). firstFrom 0 xs) (take-all (length ws - 0) ws (omega arith))
+first-whole ws = ap (λ (xs : List ℕ). firstSetFrom 0 xs) (take-all (length ws - 0) ws (omega arith))

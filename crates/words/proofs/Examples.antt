@@ -4,21 +4,21 @@ use mathlib.Core.List.{[], _∷_}
 use Rattle.lists.specs.Lists.{firstBelow, howMany}
 use Rattle.bits.specs.Bits.{has, lowest, onesOf}
 use Rattle.words.specs.declared.Found.the-variants.{Nowhere, At}
-use Rattle.words.specs.Words.{onesIn, countOf, firstFrom, firstIn, firstBetween}
+use Rattle.words.specs.Words.{onesIn, onesAnswer, firstSetFrom, firstIn, firstBetween}
 
-counts-three : countOf (0b0101 ∷ 0 ∷ 0b1000 ∷ []) ≡ 3
-unfolding countOf onesIn onesOf howMany has
+counts-three : onesAnswer (0b0101 ∷ 0 ∷ 0b1000 ∷ []) ≡ 3
+unfolding onesAnswer onesIn onesOf howMany has
 counts-three = refl
 
 finds-second : firstIn (0 ∷ 0b1100 ∷ 1 ∷ []) ≡ At 1 2
-unfolding firstIn firstFrom lowest firstBelow has
+unfolding firstIn firstSetFrom lowest firstBelow has
 finds-second = refl
 
 -- the words before the start do not count, nor does one past the end
 finds-third : firstBetween 2 9 (0 ∷ 0b1100 ∷ 1 ∷ []) ≡ At 2 0
-unfolding firstBetween firstFrom lowest firstBelow has
+unfolding firstBetween firstSetFrom lowest firstBelow has
 finds-third = refl
 
 stops-short : firstBetween 0 1 (0 ∷ 0b1100 ∷ []) ≡ Nowhere
-unfolding firstBetween firstFrom lowest firstBelow has
+unfolding firstBetween firstSetFrom lowest firstBelow has
 stops-short = refl

@@ -13,15 +13,15 @@ use lib.Seq.{drop-cons, take-all}
 use Rattle.bits.specs.Bits.{lowest, onesOf}
 use Rattle.bits.proofs.Bits.{zero-of-or}
 use Rattle.words.specs.declared.Found.the-variants.{Nowhere, At}
-use Rattle.words.specs.Words.{onesIn, countOf, firstFrom, firstBetween}
+use Rattle.words.specs.Words.{onesIn, onesAnswer, firstSetFrom, firstBetween}
 
 -- ---- the count
-pub count-few : (ws : List ℕ) → length ws ≤ 524288 → countOf ws ≡ onesIn ws
-unfolding countOf
+pub count-few : (ws : List ℕ) → length ws ≤ 524288 → onesAnswer ws ≡ onesIn ws
+unfolding onesAnswer
 count-few ws h = ap (λ (t : Bool). cond t (onesIn ws) 0) (le-leb (length ws) 524288 h)
 
-pub count-many : (ws : List ℕ) → 524288 < length ws → countOf ws ≡ 0
-unfolding countOf
+pub count-many : (ws : List ℕ) → 524288 < length ws → onesAnswer ws ≡ 0
+unfolding onesAnswer
 count-many ws h = ap (λ (t : Bool). cond t (onesIn ws) 0) (lt-leb (length ws) 524288 h)
 
 pub onesIn-next : (ws : List ℕ) (i : ℕ) → i < length ws → onesIn (drop i ws) ≡ onesOf (getD ws i 0) + onesIn (drop (i + 1) ws)
@@ -41,17 +41,17 @@ part-cons ws i to h l =
 
 pub first-here : (ws : List ℕ) (i to : ℕ) → i < to → i < length ws → (getD ws i 0 ≡ 0 → ⊥)
     → firstBetween i to ws ≡ At i (lowest (getD ws i 0))
-unfolding firstBetween firstFrom
+unfolding firstBetween firstSetFrom
 first-here ws i to h l ne =
-    ap (λ (xs : List ℕ). firstFrom i xs) (part-cons ws i to h l)
-    ∙ ap (λ (t : Bool). cond t (firstFrom (suc i) (take (to - (i + 1)) (drop (i + 1) ws))) (At i (lowest (getD ws i 0)))) (ne-eqb (getD ws i 0) 0 ne)
+    ap (λ (xs : List ℕ). firstSetFrom i xs) (part-cons ws i to h l)
+    ∙ ap (λ (t : Bool). cond t (firstSetFrom (suc i) (take (to - (i + 1)) (drop (i + 1) ws))) (At i (lowest (getD ws i 0)))) (ne-eqb (getD ws i 0) 0 ne)
 
 pub first-next : (ws : List ℕ) (i to : ℕ) → i < to → i < length ws → getD ws i 0 ≡ 0 → firstBetween i to ws ≡ firstBetween (i + 1) to ws
-unfolding firstBetween firstFrom
+unfolding firstBetween firstSetFrom
 first-next ws i to h l z =
-    ap (λ (xs : List ℕ). firstFrom i xs) (part-cons ws i to h l)
-    ∙ ap (λ (t : Bool). cond t (firstFrom (suc i) (take (to - (i + 1)) (drop (i + 1) ws))) (At i (lowest (getD ws i 0)))) (eq-eqb (getD ws i 0) 0 z)
-    ∙ ap (λ (n : ℕ). firstFrom n (take (to - (i + 1)) (drop (i + 1) ws))) (sym (add-one i))
+    ap (λ (xs : List ℕ). firstSetFrom i xs) (part-cons ws i to h l)
+    ∙ ap (λ (t : Bool). cond t (firstSetFrom (suc i) (take (to - (i + 1)) (drop (i + 1) ws))) (At i (lowest (getD ws i 0)))) (eq-eqb (getD ws i 0) 0 z)
+    ∙ ap (λ (n : ℕ). firstSetFrom n (take (to - (i + 1)) (drop (i + 1) ws))) (sym (add-one i))
 
 -- four words whose OR is 0 are passed over at once
 pub first-four : (ws : List ℕ) (i to : ℕ) → i + 3 < to → to ≤ length ws
@@ -70,10 +70,10 @@ first-four ws i to h l z =
     next k n e m q = first-next ws k to m (omega arith) q ∙ ap (λ (j : ℕ). firstBetween j to ws) (sym e)
 
 pub first-end : (ws : List ℕ) (i to : ℕ) → to ≤ i → firstBetween i to ws ≡ Nowhere
-unfolding firstBetween firstFrom
+unfolding firstBetween firstSetFrom
 first-end ws i to h =
     let e : to - i ≡ 0 = omega arith in
-    ap (λ (n : ℕ). firstFrom i (take n (drop i ws))) e
+    ap (λ (n : ℕ). firstSetFrom i (take n (drop i ws))) e
 
 -- a search past the list's end is one up to its end
 pub first-cut : (ws : List ℕ) (i to : ℕ) → firstBetween i (min to (length ws)) ws ≡ firstBetween i to ws
@@ -86,4 +86,4 @@ first-cut ws i to = go (decLt to (length ws))
         let rest = drop i ws in
         let short : take (min to (length ws) - i) rest ≡ rest = take-all (min to (length ws) - i) rest (omega (arith, h, length-drop i ws)) in
         let long : take (to - i) rest ≡ rest = take-all (to - i) rest (omega (arith, h, length-drop i ws)) in
-        ap (λ (xs : List ℕ). firstFrom i xs) (short ∙ sym long)
+        ap (λ (xs : List ℕ). firstSetFrom i xs) (short ∙ sym long)

@@ -14,18 +14,18 @@ onesIn [] = 0
 onesIn (w ∷ ws) = onesOf w + onesIn ws
 
 -- the same, and 0 where there are more than 2^19 words
-unfoldable pub countOf : List ℕ → ℕ
-countOf ws = cond (leb (length ws) 524288) (onesIn ws) 0
+unfoldable pub onesAnswer : List ℕ → ℕ
+onesAnswer ws = cond (leb (length ws) 524288) (onesIn ws) 0
 
 -- the first word that is not 0, where the first of the list stands at i, and its lowest bit
-unfoldable pub firstFrom : ℕ → List ℕ → Found
-firstFrom i [] = Nowhere
-firstFrom i (w ∷ ws) = cond (eqb w 0) (firstFrom (suc i) ws) (At i (lowest w))
+unfoldable pub firstSetFrom : ℕ → List ℕ → Found
+firstSetFrom i [] = Nowhere
+firstSetFrom i (w ∷ ws) = cond (eqb w 0) (firstSetFrom (suc i) ws) (At i (lowest w))
 
 -- the first word of all that is not 0
 unfoldable pub firstIn : List ℕ → Found
-firstIn ws = firstFrom 0 ws
+firstIn ws = firstSetFrom 0 ws
 
 -- the first word that is not 0 at the places from .. to - 1
 unfoldable pub firstBetween : ℕ → ℕ → List ℕ → Found
-firstBetween from to ws = firstFrom from (take (to - from) (drop from ws))
+firstBetween from to ws = firstSetFrom from (take (to - from) (drop from ws))

@@ -2,7 +2,7 @@
 ghost use mathlib.Core.Path.{_≡_};
 ghost use Prim.Native.Nat.{min, _≤_};
 ghost use lib.ListN.{length};
-ghost use Rattle.words.specs.Words.{countOf, firstBetween};
+ghost use Rattle.words.specs.Words.{onesAnswer, firstBetween};
 
 // Where a search ended: the place of a word in the slice, and the number of its lowest bit.
 pub enum Found {
@@ -12,7 +12,7 @@ pub enum Found {
 
 // How many bits of all the words are set; 0 where there are more words than 2^19, so that no sum can wrap.
 pub fn ones_in(words: &[u32]) -> u64
-    ensures { λ r. ⌜ r ≡ countOf (now (words .entry)) ⌝ }
+    ensures { λ r. ⌜ r ≡ onesAnswer (now (words .entry)) ⌝ }
 {
     if 524288 < words.len() {
         return 0;

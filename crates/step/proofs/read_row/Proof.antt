@@ -8,8 +8,8 @@ use borrow.Author.Tests.{not-true, not-false}
 use Rattle.bits.specs.Bits.{has}
 use Rattle.table.specs.Table.{Table, tableOf}
 use Rattle.table.specs.Answers.{okMessageIn}
-use Rattle.step.specs.Step.{okSizes}
-use Rattle.step.proofs.Tests.{Reads, reads, onward, in-part, in-whole}
+use Rattle.step.specs.Step.{okRows}
+use Rattle.step.proofs.Tests.{Reads, reads, starts-before, in-part, in-whole}
 use Rattle.step.proofs.Tells.{bad-sizes, bad-numbers, not-waiting, too-dear, no-link, tells}
 use Rattle.step.proofs.read_row.Statement.{statement}
 use Rattle.step.proofs.read_row.Tie as tie
@@ -18,7 +18,7 @@ abbrev tab : tie.Start → Table
 tab s = let a = s .args in tableOf (now (a .cost)) (now (a .way)) (now (a .waiting))
 
 abbrev Fits : tie.Start → Type 0
-Fits s = let a = s .args in okSizes (a .n) (a .p) (a .stacks) (length (now (a .cost))) (length (now (a .way))) (length (now (a .waiting))) ≡ true
+Fits s = let a = s .args in okRows (a .n) (a .p) (a .stacks) (length (now (a .cost))) (length (now (a .way))) (length (now (a .waiting))) ≡ true
 
 abbrev Good : tie.Start → Type 0
 Good s = let a = s .args in okMessageIn (a .n) (a .stacks) (a .sender) (a .receiver) (a .destination) (a .number) ≡ true
@@ -106,10 +106,10 @@ mul-read-cost : tie.Need-mul-read-cost
 mul-read-cost c = fits-there (c .before .before .before) .start-bytes
 
 sub-read-cost : tie.Need-sub-read-cost
-sub-read-cost c = onward _ _
+sub-read-cost c = starts-before _ _
 
 part-read-cost-start : tie.Need-part-read-cost-start
-part-read-cost-start c = onward _ _
+part-read-cost-start c = starts-before _ _
 
 part-read-cost-end : tie.Need-part-read-cost-end
 part-read-cost-end c = fits-there (c .before .before .before) .ends

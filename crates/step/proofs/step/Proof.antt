@@ -9,7 +9,7 @@ use Rattle.hear.specs.Hearing.{Gateway}
 use Rattle.hear.specs.Answers.{gatewayOf}
 use Rattle.hear.specs.Answers as hearing
 use Rattle.table.specs.Table.{Table, tableOf}
-use Rattle.step.proofs.Tests.{onward, length-of}
+use Rattle.step.proofs.Tests.{starts-before, length-of}
 use Rattle.step.proofs.Tells.{Passed, passed, Lends, lends}
 use Rattle.step.proofs.Hearing.{put-back-long, refuses, delivers}
 use Rattle.step.proofs.step.Statement.{statement}
@@ -80,10 +80,10 @@ mul-hear : tie.Need-mul-hear
 mul-hear c = lent (c .before .before .before) .from-4
 
 sub-hear : tie.Need-sub-hear
-sub-hear c = onward _ _
+sub-hear c = starts-before _ _
 
 part-hear-start : tie.Need-part-hear-start
-part-hear-start c = onward _ _
+part-hear-start c = starts-before _ _
 
 part-hear-end : tie.Need-part-hear-end
 part-hear-end c = lent (c .before .before .before) .costs-end
@@ -92,10 +92,10 @@ mul-hear-2 : tie.Need-mul-hear-2
 mul-hear-2 c = lent (c .before .before .before .before) .from-2
 
 sub-hear-2 : tie.Need-sub-hear-2
-sub-hear-2 c = onward _ _
+sub-hear-2 c = starts-before _ _
 
 part-hear-start-2 : tie.Need-part-hear-start-2
-part-hear-start-2 c = onward _ _
+part-hear-start-2 c = starts-before _ _
 
 part-hear-end-2 : tie.Need-part-hear-end-2
 part-hear-end-2 c = lent (c .before .before .before .before) .ways-end
@@ -104,10 +104,10 @@ mul-hear-3 : tie.Need-mul-hear-3
 mul-hear-3 c = lent (c .before .before .before .before .before) .from-4
 
 sub-hear-3 : tie.Need-sub-hear-3
-sub-hear-3 c = onward _ _
+sub-hear-3 c = starts-before _ _
 
 part-hear-start-3 : tie.Need-part-hear-start-3
-part-hear-start-3 c = onward _ _
+part-hear-start-3 c = starts-before _ _
 
 part-hear-end-3 : tie.Need-part-hear-end-3
 part-hear-end-3 c = lent (c .before .before .before .before .before) .waits-end (now (c .before .before .before .before .before .before .before .before .before .before .before .before .before .before .args .waiting)) (c .before .before .without .result) refl
