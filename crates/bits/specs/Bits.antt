@@ -9,7 +9,7 @@ use Rattle.lists.specs.Lists.{firstBelow, howMany}
 abbrev pub bit : ℕ → ℕ → ℕ
 bit w v = w / 2 ^ v % 2
 
--- a message waits for neighbour v
+-- bit v of w is set: of a waiting word, "a message about this row waits for neighbour V"
 unfoldable pub has : ℕ → ℕ → Bool
 has w v = eqb (bit w v) 1
 

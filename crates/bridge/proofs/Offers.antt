@@ -17,7 +17,7 @@ use Rattle.hear.specs.Hearing.{leader, offer}
 use Rattle.table.specs.Table.{Table, rowsEach, place, gateway, vertex, vertexNode, vertexNumber}
 use Rattle.table.proofs.Rows.{vertex-node, vertex-number, vertex-below}
 use Rattle.table.proofs.Deliveries.{Goes, told, leaderOf, offerTo, took}
-use Rattle.bridge.specs.Bridge.{about, functionBetween, weightOf, graphOf, vertexPlace, vertexCost, leadsTo, stateOf}
+use Rattle.bridge.specs.Bridge.{about, functionBetween, weightOf, graphOf, vertexPlace, vertexCost, vertexMade, leadsTo, stateOf}
 use Rattle.bridge.proofs.Hops.{leader-about}
 use Rattle.bridge.proofs.Weights.{Hops, weight-hop, hop-weight, hop-by}
 use Rattle.bridge.proofs.States.{cost-inside}
@@ -75,8 +75,9 @@ module _ (net : Network) (t : Table) (Q U D N : ℕ) (go : Goes net t Q U D N) w
         let led : f < 192 = omega (arith, function-leader, hop .led) in
         let node : (256 * Q + f) / 256 ≡ Q = omega arith in
         let function : (256 * Q + f) % 256 ≡ f = omega arith in
-        ap₂ (λ (W g : ℕ). vertex net W (numberAfter (appliedOf (net .p) (net .h) g (vertexNumber net u)))) node function
-        ∙ ap (λ (a : After). vertex net Q (numberAfter a)) (leads-here right hop)
+        ap₂ (λ (W g : ℕ). vertexMade net W (numberAfter (appliedOf (net .p) (net .h) g (vertexNumber net u)))) node function
+        ∙ ap (λ (a : After). vertexMade net Q (numberAfter a)) (leads-here right hop)
+        ∙ simp (lt-ltb 0 N (go .stack .some))
 
     -- a vertex of U that takes the offer is a row that does
     pub takes-took : Takes (graphOf net D) (stateOf net D t) heardOf U u → took net t Q U D N D (vertexNumber net u) ≡ true

@@ -6,6 +6,7 @@ use Rattle.bridge.specs.Bridge.{Bridged}
 use Rattle.bridge.proofs.Weights.{lawful, neighbours-few, hop-function, function-hop}
 use Rattle.bridge.proofs.Beginning.{fresh-sized, fresh-is-fresh}
 use Rattle.table.proofs.Deliveries.{goes, delivered-sized}
+use Rattle.table.proofs.Refusals.{goes-through, refused-stays}
 use Rattle.bridge.proofs.Steps.{delivery-is-a-step, delivery-elsewhere}
 
 pub bridged : (net : Network) → refusalOf net ≡ 0 → Numbers16 net → (D : ℕ) → D < net .n → Bridged net D
@@ -17,6 +18,8 @@ bridged net right numbers D d = record {
   delivery-sized = λ t Q U E N sized e. delivered-sized net t Q U E N sized (goes net t Q U E N e .receiver);
   delivery-is-a-step = delivery-is-a-step net right D;
   delivery-elsewhere = delivery-elsewhere net D d;
+  call-delivers = goes-through net;
+  refused-is-none = refused-stays net;
   hop-function = hop-function net right;
   function-hop = function-hop net right;
 }

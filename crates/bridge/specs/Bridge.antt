@@ -12,7 +12,7 @@ use Rattle.network.specs.Network.{Network, present}
 use Rattle.gateways.specs.Gateways.{can, weight}
 use Rattle.hear.specs.Hearing.{Message, leader}
 use Rattle.table.specs.Table.{Table, Sized, vertex, vertexNode, vertexNumber, noRow, rowsEach, place, home, fresh, gateway, delivered}
-use Rattle.table.specs.Answers.{stepRefusal}
+use Rattle.table.specs.Answers.{stepRefusal, deliverRefusal, deliverTable}
 
 -- a message about a stack number, of which only that number matters
 abbrev pub about : ℕ → Message
@@ -56,9 +56,13 @@ module _ (net : Network) where
   unfoldable pub vertexWaiting : ℕ → Table → ℕ → ℕ → Bool
   vertexWaiting D t v U = ltb v (rowsEach net) && has (getD (t .waiting) (vertexPlace D v) 0) U
 
+  -- the vertex of a node and the number of the stack made there; none where that is 0, which is said of a function that is not applicable
+  abbrev pub vertexMade : ℕ → ℕ → ℕ
+  vertexMade W M = cond (ltb 0 M) (vertex net W M) (rowsEach net)
+
   -- the vertex that a way names at a stack number: the next node, with what the function makes of the stack
   unfoldable pub leadsTo : ℕ → ℕ → ℕ
-  leadsTo way N = vertex net (way / 256) (numberAfter (appliedOf (net .p) (net .h) (way % 256) N))
+  leadsTo way N = vertexMade (way / 256) (numberAfter (appliedOf (net .p) (net .h) (way % 256) N))
 
   unfoldable pub vertexNext : ℕ → Table → ℕ → ℕ
   vertexNext D t v = cond (ltb v (rowsEach net)) (leadsTo (getD (t .way) (vertexPlace D v) 0) (vertexNumber net v)) 0
@@ -87,6 +91,10 @@ module _ (net : Network) where
         → Deliver (graphOf D) (stateOf D t) (stateOf D (delivered net t Q U D N)) (vertex net Q N) U
     pub delivery-elsewhere : (t : Table) (Q U E N : ℕ) → Sized net t → stepRefusal net t Q U E N ≡ 0 → (D ≡ E → ⊥)
         → Same (stateOf D t) (stateOf D (delivered net t Q U E N))
+    -- a call of deliver that is not refused is that delivery, and a refused call is none: it leaves the table
+    pub call-delivers : (t : Table) (Q U E N : ℕ) → deliverRefusal net t Q U E N ≡ 0
+        → (stepRefusal net t Q U E N ≡ 0) × (deliverTable net t Q U E N ≡ delivered net t Q U E N)
+    pub refused-is-none : (t : Table) (Q U E N : ℕ) → (deliverRefusal net t Q U E N ≡ 0 → ⊥) → deliverTable net t Q U E N ≡ t
     -- the hops are what the specification calls hops
     pub hop-function : (u v : ℕ) → 0 < weightOf u v → (f : ℕ) × HopBy u v f
     pub function-hop : (U W f N M : ℕ) → can net U f ≡ true → present net U W ≡ true → appliedOf (net .p) (net .h) f N ≡ After.Number M

@@ -35,7 +35,7 @@ pub fn link_cost(n: usize, links: &[u16], u: usize, w: usize) -> u16
     entry(links, u * n + w)
 }
 
-// The word with bit w set where there is a link: the branch of the loop below, which has none itself.
+// The word with bit w set where there is a link from the node to w.
 fn with_link(n: usize, links: &[u16], node: usize, w: usize, word: u32) -> u32
     ensures { λ r. ⌜ r ≡ withLink n (now (links .entry)) node w word ⌝ }
 {

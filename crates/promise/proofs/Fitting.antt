@@ -21,8 +21,9 @@ use Rattle.table.specs.Table.{Table, Sized, rowsAll, place, nodeAt, destination
 use Rattle.table.specs.Answers.{stepRefusal}
 use Rattle.table.proofs.Rows.{of-place, is-row}
 use Rattle.table.proofs.Deliveries.{goes, took, waiting-there, waiting-here, cleared-row, kept-row}
+use Rattle.table.proofs.Refusals.{delivery-cases}
 use Rattle.promise.specs.Routes.{Reached, begun, delivery}
-use Rattle.promise.proofs.Reaching.{delivery-cases, sized}
+use Rattle.promise.proofs.Reaching.{sized}
 
 -- ---- a word without bits, and a list of such words
 none-found : (i : ℕ) (ws : List ℕ) → firstSetFrom i ws ≡ Found.Nowhere → onesIn ws ≡ 0

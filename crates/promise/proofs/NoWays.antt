@@ -20,9 +20,10 @@ use Rattle.table.specs.Table.{Table, Sized, noRow, noWay, rowsAll, place, home,
 use Rattle.table.specs.Answers.{stepRefusal}
 use Rattle.table.proofs.Rows.{Stack, place-below}
 use Rattle.table.proofs.Deliveries.{goes, took, leaderOf, offerTo, changes, stays, Stays, kept-row}
+use Rattle.table.proofs.Refusals.{delivery-cases}
 use Rattle.bridge.proofs.Beginning.{fresh-cost, fresh-waiting}
 use Rattle.promise.specs.Routes.{Network16, Reached, begun, delivery}
-use Rattle.promise.proofs.Reaching.{delivery-cases, sized}
+use Rattle.promise.proofs.Reaching.{sized}
 use Rattle.promise.proofs.Onward.{cost-most}
 use Rattle.promise.proofs.Looking.{numbered}
 use Rattle.promise.proofs.Homes.{one-ok, one-home}

@@ -40,11 +40,12 @@ module _ (net : Network) (U D N : ℕ) (u : U < net .n) (n : Stack net N) where
   unfolding homeOf
   home-is = simp (lt-ltb (vertex net U N) (rowsEach net) (vertex-below net U N u n), vertex-node net U N n, vertex-number net U N n)
 
-  pub next-is : (t : Table) → bridged.vertexNext net D t (vertex net U N) ≡ vertex net (nextOf net t U D N) (resultOf net t U D N)
+  pub next-is : (t : Table) → 0 < resultOf net t U D N → bridged.vertexNext net D t (vertex net U N) ≡ vertex net (nextOf net t U D N) (resultOf net t U D N)
   unfolding leadsTo
-  next-is t =
+  next-is t made =
       next-inside net D t (vertex net U N) (vertex-below net U N u n)
       ∙ ap₂ (λ (i k : ℕ). leadsTo net (getD (t .way) i 0) k) row-is (vertex-number net U N n)
+      ∙ simp (lt-ltb 0 (resultOf net t U D N) made)
 
 module _ (net : Network) (ok : Network16 net) (t : Table) (r : Reached net t) (U D N : ℕ) where
   -- no cost is above the ceiling: there are at most 16,384 vertices
@@ -95,7 +96,7 @@ module _ (net : Network) (ok : Network16 net) (t : Table) (r : Reached net t) (U
         let m = within (net .p) (net .h) M (leads (net .p) (net .h) f N M (l .makes) .to) in
         let w = present-nodes net U W (l .linked) .1 in
         let hop : weightOf net (vertex net U N) (vertex net W M) ≡ weight net U f W = bridge net ok D (a .destination) .function-hop U W f N M (l .can-it) (l .linked) (l .makes) in
-        let next = next-is net U D N (a .node) (a .stack) t in
+        let next = next-is net U D N (a .node) (a .stack) t (m .some) in
         let pays : bridged.vertexCost net D t (vertex net W M) + weightOf net (vertex net U N) (vertex net W M) ≤ bridged.vertexCost net D t (vertex net U N) = rw next at (hop-there .pays) in
         record {
           can-it = l .can-it;

@@ -1,41 +1,21 @@
 -- A table that can come to be is, for each destination, a state that can come to be in the theory; and no call refuses it.
 use Prim.Native.Nat.{ℕ, _<_}
 use native.Mathlib.Decide.{ℕ-discrete}
-use mathlib.Core.Path.{_≡_, refl, sym, _∙_, subst}
+use mathlib.Core.Path.{_≡_, subst}
 use mathlib.Core.Logic.{by-cases}
-use mathlib.Core.Bool.{Bool, true, false, cond, true≢false}
 use lib.ListN.{length}
-use lib.Dec.{eqb}
-use borrow.Author.Tests.{eqb-true, eq-eqb}
+use borrow.Author.Tests.{eq-eqb}
 use Rattle.relax.specs.Graph.{Step, deliver, stutter, Reach, fresh, more}
 use Rattle.relax.specs.Graph as relax
 use Rattle.network.specs.Network.{Network, refusalOf}
 use Rattle.table.specs.Table.{Table, Sized, rowsAll, vertex, delivered}
-use Rattle.table.specs.Answers.{okLengths, refusalBy, refusal, freshTable, stepRefusal, deliverRefusal, deliverTable}
+use Rattle.table.specs.Answers.{okLengths, refusalBy, refusal, freshTable, stepRefusal}
 use Rattle.bridge.specs.Bridge.{graphOf, stateOf, Bridged}
 use Rattle.bridge.proofs.Beginning.{fresh-sized}
 use Rattle.bridge.proofs.Theorems.{bridged}
 use Rattle.table.proofs.Deliveries.{goes, delivered-sized}
+use Rattle.table.proofs.Refusals.{delivery-cases}
 use Rattle.promise.specs.Routes.{Network16, Reached, Later, begun, now, delivery}
-
--- ---- a delivery goes through, or leaves the table as it is
-module _ (net : Network) (t : Table) (Q U E N : ℕ) where
-  not-refused : deliverRefusal net t Q U E N ≡ 0 → stepRefusal net t Q U E N ≡ 0
-  unfolding deliverRefusal
-  not-refused e = go (eqb (refusal net t) 0) refl e
-    where
-      go : (b : Bool) → eqb (refusal net t) 0 ≡ b → cond b (stepRefusal net t Q U E N) (refusal net t) ≡ 0 → stepRefusal net t Q U E N ≡ 0
-      go true z d = d
-      go false z d = absurd (true≢false (sym (eq-eqb (refusal net t) 0 d) ∙ z))
-
-  -- so what holds in both cases holds of the table after any call of deliver
-  pub delivery-cases : (P : Table → Type 0) → (stepRefusal net t Q U E N ≡ 0 → P (delivered net t Q U E N)) → P t → P (deliverTable net t Q U E N)
-  unfolding deliverTable
-  delivery-cases P through same = go (eqb (deliverRefusal net t Q U E N) 0) refl
-    where
-      go : (b : Bool) → eqb (deliverRefusal net t Q U E N) 0 ≡ b → P (cond b (delivered net t Q U E N) t)
-      go true z = through (not-refused (eqb-true (deliverRefusal net t Q U E N) 0 z))
-      go false z = same
 
 -- ---- the slices keep their lengths, so that no call refuses the table
 module _ (net : Network) where

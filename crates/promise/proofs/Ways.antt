@@ -20,11 +20,12 @@ use Rattle.table.specs.Table.{Table, Sized, noRow, place, home, gateway, fresh,
 use Rattle.table.specs.Answers.{stepRefusal}
 use Rattle.table.proofs.Rows.{Stack}
 use Rattle.table.proofs.Deliveries.{Goes, goes, told, leaderOf, offerTo, took, changes, stays}
+use Rattle.table.proofs.Refusals.{delivery-cases}
 use Rattle.bridge.specs.Bridge.{about}
 use Rattle.bridge.proofs.Beginning.{fresh-cost}
 use Rattle.bridge.proofs.Hops.{By, leader-about, leader-by}
 use Rattle.promise.specs.Routes.{Network16, Reached, begun, delivery}
-use Rattle.promise.proofs.Reaching.{delivery-cases, sized}
+use Rattle.promise.proofs.Reaching.{sized}
 
 module _ (net : Network) where
   -- at the node U, a packet whose stack has number N can go the way

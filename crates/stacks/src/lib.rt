@@ -19,7 +19,7 @@ fn good_size(p: usize, h: usize) -> bool
     (1 <= p) & ((p <= 8) & ((1 <= h) & (h <= 12)))
 }
 
-// How many stacks there are.
+// S by Horner's rule, where p and h are in range.
 fn total(p: usize, h: usize) -> usize
     requires { ⌜ (p ≤ 8) × (h ≤ 12) ⌝ }
     ensures { λ r. ⌜ r ≡ count p h ⌝ }

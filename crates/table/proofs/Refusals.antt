@@ -1,16 +1,18 @@
--- A table is refused 1, 2 or 3, and one that is not refused is right.
-use Prim.Native.Nat.{_≤_}
+-- A table is refused 1, 2 or 3, and one that is not refused is right; a refused delivery leaves it as it is.
+use Prim.Native.Nat.{ℕ, _≤_}
+use native.Mathlib.Decide.{ℕ-discrete}
 use native.Mathlib.Omega.{arith}
-use mathlib.Core.Path.{_≡_, refl}
-use mathlib.Core.Bool.{Bool, true, false, cond}
+use mathlib.Core.Path.{_≡_, refl, sym, _∙_, subst}
+use mathlib.Core.Logic.{by-cases}
+use mathlib.Core.Bool.{Bool, true, false, cond, true≢false}
 use lib.ListN.{length}
 use lib.Dec.{eqb}
-use borrow.Author.Tests.{eqb-true, eqb-false}
+use borrow.Author.Tests.{eqb-true, eqb-false, eq-eqb, ne-eqb}
 use Rattle.network.specs.Network.{Network, stacks, refusalOf}
 use Rattle.network.specs.declared.Checked.{Checked}
 use Rattle.network.proofs.Laws.{refusal-most}
-use Rattle.table.specs.Table.{Table}
-use Rattle.table.specs.Answers.{okLengths, refusalBy, refusal}
+use Rattle.table.specs.Table.{Table, delivered}
+use Rattle.table.specs.Answers.{okLengths, refusalBy, refusal, stepRefusal, deliverRefusal, deliverTable}
 use Rattle.table.proofs.Begins.{Ready, is-ready}
 
 module _ (net : Network) (t : Table) where
@@ -41,3 +43,24 @@ module _ (net : Network) (t : Table) where
       go : (b : Bool) → eqb (refusal net t) 0 ≡ b → P (cond b answer refused)
       go true e = f (ready-then (eqb-true (refusal net t) 0 e))
       go false e = let some = eqb-false (refusal net t) 0 e in g (omega (arith, some)) refusal-few
+
+-- ---- a delivery goes through, or leaves the table as it is
+module _ (net : Network) (t : Table) (Q U D N : ℕ) where
+  -- a delivery that is not refused has none of its own refusals either, and makes the table that is its definition
+  pub goes-through : deliverRefusal net t Q U D N ≡ 0 → (stepRefusal net t Q U D N ≡ 0) × (deliverTable net t Q U D N ≡ delivered net t Q U D N)
+  unfolding deliverRefusal deliverTable
+  goes-through e = (go (eqb (refusal net t) 0) refl e, rw (eq-eqb (deliverRefusal net t Q U D N) 0 e) refl)
+    where
+      go : (b : Bool) → eqb (refusal net t) 0 ≡ b → cond b (stepRefusal net t Q U D N) (refusal net t) ≡ 0 → stepRefusal net t Q U D N ≡ 0
+      go true z d = d
+      go false z d = absurd (true≢false (sym (eq-eqb (refusal net t) 0 d) ∙ z))
+
+  pub refused-stays : (deliverRefusal net t Q U D N ≡ 0 → ⊥) → deliverTable net t Q U D N ≡ t
+  unfolding deliverTable
+  refused-stays n = rw (ne-eqb (deliverRefusal net t Q U D N) 0 n) refl
+
+  -- so what holds in both cases holds of the table after any call of deliver
+  pub delivery-cases : (P : Table → Type 0) → (stepRefusal net t Q U D N ≡ 0 → P (delivered net t Q U D N)) → P t → P (deliverTable net t Q U D N)
+  delivery-cases P through same = by-cases (ℕ-discrete (deliverRefusal net t Q U D N) 0)
+      (λ e. let g = goes-through e in subst P (sym (g .1)) (through (g .0)))
+      (λ n. subst P (sym (refused-stays n)) same)

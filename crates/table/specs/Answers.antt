@@ -1,4 +1,5 @@
--- What each call answers and what it leaves in the table, for every input: these are the contracts of the crates table, fresh and deliver. The parts "Tables" and "Refusal numbers" of the specification.
+-- What each call answers and what it leaves in the table, for every input: the contracts of table, fresh, waiting and deliver. The parts "Tables"
+-- and "Refusal numbers" of the specification.
 use Prim.Native.Nat.{ℕ}
 use mathlib.Core.Bool.{Bool, cond, _&&_}
 use lib.ListN.{length, getD}
@@ -67,7 +68,7 @@ module _ (net : Network) (t : Table) where
   abbrev pub countAnswer : Counted
   countAnswer = cond (eqb refusal 0) (Counted.Messages (onesIn (t .waiting))) (Counted.Refused refusal)
 
-  -- first waiting: "By node, then row, then lowest bit, the first set bit of the whole table, or quiet"; the rows lie in that order
+  -- first waiting: "By node, then row, then lowest bit, the first set bit of the whole table, or "quiet""; the rows lie in that order
   abbrev pub firstOf : Found → First
   firstOf Found.Nowhere = First.Quiet
   firstOf (Found.At i bit) = First.Message (nodeAt net i) (destinationAt net i) (numberAt net i) bit

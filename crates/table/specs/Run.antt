@@ -33,14 +33,16 @@ abbrev pub ends : ℕ → Table → Outcome
 ends refused t = record { done = 0; offers = 0; refused = refused; table = t }
 
 module _ (net : Network) where
-  -- One turn at what the search found, with `rest` for the turns that are left: "where a broken table makes a delivery refuse, run returns
-  -- that number with the count of deliveries it made, keeps those, and the refused one changes nothing".
+  -- One delivery of a run, with `rest` for the turns that are left: "where a broken table makes a delivery refuse, run returns that number with
+  -- the count of deliveries it made, keeps those, and the refused one changes nothing".
+  abbrev pub delivering : (Table → Outcome) → Table → ℕ → ℕ → ℕ → ℕ → Outcome
+  delivering rest t Q U D N =
+      cond (eqb (stepRefusal net t Q U D N) 0) (after (offersTaken net t Q U D N) (rest (delivered net t Q U D N))) (ends (stepRefusal net t Q U D N) t)
+
+  -- one turn at what the search found
   abbrev pub turn : (Table → Outcome) → Table → Found → Outcome
   turn rest t Found.Nowhere = ends 0 t
-  turn rest t (Found.At i U) =
-      cond (eqb (stepRefusal net t (nodeAt net i) U (destinationAt net i) (numberAt net i)) 0)
-      (after (offersTaken net t (nodeAt net i) U (destinationAt net i) (numberAt net i)) (rest (delivered net t (nodeAt net i) U (destinationAt net i) (numberAt net i))))
-      (ends (stepRefusal net t (nodeAt net i) U (destinationAt net i) (numberAt net i)) t)
+  turn rest t (Found.At i U) = delivering rest t (nodeAt net i) U (destinationAt net i) (numberAt net i)
 
   abbrev pub steps : ℕ → Table → Outcome
   steps zero t = ends 0 t

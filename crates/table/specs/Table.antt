@@ -1,4 +1,4 @@
--- The routing table and what the calls do to it: the part "Tables" of the specification.
+-- The routing table and what the calls do to it: the part "Tables" of the specification. (A message's sender, which is V there, is Q here.)
 use Prim.Native.Nat.{ℕ, _+_, _-_, _*_, _/_, _%_}
 use mathlib.Core.Path.{_≡_}
 use mathlib.Core.List.{List}
@@ -37,7 +37,8 @@ ceiling = hearing.ceiling
 abbrev pub placeIn : ℕ → ℕ → ℕ → ℕ → ℕ → ℕ
 placeIn n s U D N = (U * n + D) * s + (N - 1)
 
--- "For each D and each protocol x that D accepts, the row at D for D and stack x": the stack of one protocol x has number x + 1
+-- "For each D and each protocol x that D accepts, the row at D for D and stack x": the stack of one protocol x has number x + 1.
+-- (No stack has number 0, and none is asked about.)
 abbrev pub homeIn : ℕ → ℕ → List ℕ → ℕ → ℕ → ℕ → Bool
 homeIn n p functions U D N = eqb U D && (leb N p && receivesAt n p functions D (N - 1))
 
