@@ -10,7 +10,7 @@ use Rattle.words.specs.declared.Found.{Found}
 use Rattle.network.specs.Network.{Network, stacks}
 use Rattle.table.specs.Table.{Table, nodeAt, destinationAt, numberAt, offersTaken, delivered}
 use Rattle.table.specs.Answers.{stepRefusalIn, refusal, okMessage, waits, okSender, stepRefusal, deliverRefusal, deliverAnswer}
-use Rattle.table.specs.Run.{Outcome, after, ends, turn, steps, runOf}
+use Rattle.table.specs.Run.{RunOutcome, after, ends, turn, steps, runOf}
 use Rattle.table.specs.declared.Delivered.{Delivered}
 use Rattle.table.proofs.Begins.{rows-few}
 use Rattle.table.proofs.Refusals.{refusal-few, ready-then}
@@ -48,7 +48,7 @@ module _ (net : Network) (t : Table) (Q U D N : ℕ) where
 
 -- ---- how a run ends
 module _ (net : Network) where
-  turn-few : (rest : Table → Outcome) → ((t : Table) → rest t .refused ≤ 7) → (t : Table) (f : Found) → turn net rest t f .refused ≤ 7
+  turn-few : (rest : Table → RunOutcome) → ((t : Table) → rest t .refused ≤ 7) → (t : Table) (f : Found) → turn net rest t f .refused ≤ 7
   turn-few rest less t Found.Nowhere = omega arith
   turn-few rest less t (Found.At i U) = go (eqb (stepRefusal net t (nodeAt net i) U (destinationAt net i) (numberAt net i)) 0)
     where

@@ -7,7 +7,7 @@ use lib.ListN.{length, getD, set}
 use lib.Dec.{leb}
 use Rattle.network.specs.Network.{Network}
 use Rattle.table.specs.Table.{Table}
-use Rattle.table.specs.Run.{Outcome, runOf}
+use Rattle.table.specs.Run.{RunOutcome, runOf}
 use Rattle.packing.specs.Packing.{packRefused, packEnd, endIn}
 
 module _ (net : Network) (limit : ℕ) (t : Table) (answer : List ℕ) where
@@ -31,5 +31,5 @@ pub record RunExported (net : Network) (limit : ℕ) (t : Table) (answer : List 
   pub written : numbers ≡ runNumbers net limit t answer
 
 -- an outcome as a C caller reads it back from the answer, the two numbers and the table, where the slice had room for them
-unfoldable pub unpackRun : ℕ → List ℕ → Table → Outcome
+unfoldable pub unpackRun : ℕ → List ℕ → Table → RunOutcome
 unpackRun r numbers after = record { done = getD numbers 0 0; offers = getD numbers 1 0; refused = endIn r; table = after }

@@ -12,7 +12,7 @@ use borrow.Author.Tests.{leb-true, ltb-true, eqb-true, ne-eqb}
 use Rattle.lists.specs.Lists.{unless}
 use Rattle.lists.proofs.Tests.{both}
 use Rattle.hear.specs.Hearing.{Gateway, Message, Rows, heard, taken}
-use Rattle.hear.specs.Answers.{goodNumbers, goodLengths, okHearing, ceiling, refusedBy, refusalOf, rowsAfter, Hears}
+use Rattle.hear.specs.Answers.{goodNumbers, goodLengths, okHearing, ceiling, refusedBy, hearRefusal, rowsAfter, Hears}
 use Rattle.hear.specs.declared.Heard.{Heard}
 
 -- ---- the tests as facts
@@ -130,14 +130,14 @@ module _ (g : Gateway) (m : Message) (r : Rows) where
         };
       }
 
-  refusal-same : refusalOf g m r ≡ refused
-  unfolding refusalOf
+  refusal-same : hearRefusal g m r ≡ refused
+  unfolding hearRefusal
   refusal-same = refl
 
   pub refuses : (k : ℕ) → k ≡ refused → (k ≡ 0 → ⊥) → Hears g m r (Heard.Refused k) r
   unfolding rowsAfter
   refuses k e some =
-      let is : refusalOf g m r ≡ k = refusal-same ∙ sym e in
+      let is : hearRefusal g m r ≡ k = refusal-same ∙ sym e in
       let no : eqb k 0 ≡ false = ne-eqb k 0 some in
       record {
         answers = simp (is, no);
@@ -149,7 +149,7 @@ module _ (g : Gateway) (m : Message) (r : Rows) where
   pub finished : (count : ℕ) (s : Rows) → refused ≡ 0 → count ≡ taken g m r → s ≡ heard g m r → Hears g m r (Heard.Rows count) s
   unfolding rowsAfter
   finished count s e counted e′ =
-      let is : refusalOf g m r ≡ 0 = refusal-same ∙ e in
+      let is : hearRefusal g m r ≡ 0 = refusal-same ∙ e in
       record {
         answers = simp (is, counted);
         costs = simp (is, e′);

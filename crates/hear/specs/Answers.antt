@@ -53,12 +53,12 @@ refusedBy p most sender destination number cost costs ways waiting =
     unless (okHearing p most sender destination number costs ways waiting) 4 (unless (leb cost ceiling) 7 0)
 
 -- the same of the gateway, the message and its rows
-unfoldable pub refusalOf : Gateway → Message → Rows → ℕ
-refusalOf g m r =
+unfoldable pub hearRefusal : Gateway → Message → Rows → ℕ
+hearRefusal g m r =
     refusedBy (g .p) (g .most) (m .sender) (m .destination) (m .number) (m .cost) (length (r .costs)) (length (r .ways)) (length (r .waiting))
 
-abbrev pub answerOf : Gateway → Message → Rows → Heard
-answerOf g m r = cond (eqb (refusalOf g m r) 0) (Heard.Rows (taken g m r)) (Heard.Refused (refusalOf g m r))
+abbrev pub hearAnswer : Gateway → Message → Rows → Heard
+hearAnswer g m r = cond (eqb (hearRefusal g m r) 0) (Heard.Rows (taken g m r)) (Heard.Refused (hearRefusal g m r))
 
 -- "A refusal returns its number and zeros": of that answer the refusal number, 0 where nothing is refused, and the rows that go with it
 abbrev pub heardRefusal : Heard → ℕ
@@ -71,11 +71,11 @@ heardRows (Heard.Refused r) = 0
 
 -- the rows afterwards; a refusal leaves them as they were
 unfoldable pub rowsAfter : Gateway → Message → Rows → Rows
-rowsAfter g m r = cond (eqb (refusalOf g m r) 0) (heard g m r) r
+rowsAfter g m r = cond (eqb (hearRefusal g m r) 0) (heard g m r) r
 
 -- what `hear` answers, and the three lists as it leaves them
 pub record Hears (g : Gateway) (m : Message) (r : Rows) (answer : Heard) (after : Rows) : Type 0 where
-  pub answers : answer ≡ answerOf g m r
+  pub answers : answer ≡ hearAnswer g m r
   pub costs : after .costs ≡ rowsAfter g m r .costs
   pub ways : after .ways ≡ rowsAfter g m r .ways
   pub waiting : after .waiting ≡ rowsAfter g m r .waiting

@@ -13,7 +13,7 @@ use Rattle.network.specs.Network.{Network, stacks, refusalOf}
 use Rattle.network.specs.Answers.{checkedOf, checkedRefusal}
 use Rattle.network.specs.declared.Checked.{Checked}
 use Rattle.hear.specs.Hearing.{Gateway, Message, Rows, taken}
-use Rattle.hear.specs.Answers.{answerOf, heardRefusal}
+use Rattle.hear.specs.Answers.{hearRefusal, hearAnswer, heardRefusal}
 use Rattle.hear.specs.declared.Heard.{Heard}
 use Rattle.table.specs.Table.{Table, fresh, offersTaken}
 use Rattle.table.specs.Answers.{
@@ -44,8 +44,8 @@ read reads refuses gives r zero back = by-cases (ℕ-discrete r 0)
 pub check-reads : (net : Network) → checkedRefusal (checkedOf net) ≡ refusalOf net
 check-reads net = read checkedRefusal Checked.Refused (Checked.Stacks (stacks net)) (refusalOf net) refl (λ q. refl)
 
-pub hear-reads : (g : Gateway) (m : Message) (r : Rows) → heardRefusal (answerOf g m r) ≡ Rattle.hear.specs.Answers.refusalOf g m r
-hear-reads g m r = read heardRefusal Heard.Refused (Heard.Rows (taken g m r)) (Rattle.hear.specs.Answers.refusalOf g m r) refl (λ q. refl)
+pub hear-reads : (g : Gateway) (m : Message) (r : Rows) → heardRefusal (hearAnswer g m r) ≡ hearRefusal g m r
+hear-reads g m r = read heardRefusal Heard.Refused (Heard.Rows (taken g m r)) (hearRefusal g m r) refl (λ q. refl)
 
 module _ (net : Network) (t : Table) where
   pub fresh-reads : countedRefusal (freshAnswer net t) ≡ refusal net t

@@ -10,7 +10,7 @@ use Rattle.words.specs.declared.Found.{Found}
 use Rattle.network.specs.Network.{Network}
 use Rattle.table.specs.Table.{Table, nodeAt, destinationAt, numberAt, delivered}
 use Rattle.table.specs.Answers.{stepRefusal}
-use Rattle.table.specs.Run.{Outcome, turn, steps, runOf}
+use Rattle.table.specs.Run.{RunOutcome, turn, steps, runOf}
 use Rattle.promise.specs.Routes.{Network16, Reached, mostDeliveries, together, rounds, Quiet}
 use Rattle.promise.proofs.Fitting.{nowhere-quiet}
 use Rattle.promise.proofs.Running.{made, run-steps, run-reached, found-goes}
@@ -18,10 +18,10 @@ use Rattle.promise.proofs.Settling.{settles}
 
 module _ (net : Network) (ok : Network16 net) where
   -- what is said of the outcome of a run with the limit k
-  Ended : ℕ → Outcome → Type 0
+  Ended : ℕ → RunOutcome → Type 0
   Ended k o = (o .refused ≡ 0) × (o .done < k → Quiet net (o .table))
 
-  turn-ended : (rest : Table → Outcome) (k : ℕ) → ((u : Table) → Reached net u → Ended k (rest u))
+  turn-ended : (rest : Table → RunOutcome) (k : ℕ) → ((u : Table) → Reached net u → Ended k (rest u))
       → (t : Table) → Reached net t → (f : Found) → firstIn (t .waiting) ≡ f → Ended (suc k) (turn net rest t f)
   unfolding Ended
   turn-ended rest k on t r Found.Nowhere e = (refl, λ h. nowhere-quiet (t .waiting) e)
@@ -37,11 +37,11 @@ module _ (net : Network) (ok : Network16 net) where
 
   pub run-unrefused : (t : Table) (k : ℕ) → Reached net t → runOf net k t .refused ≡ 0
   unfolding Ended
-  run-unrefused t k r = ap (λ (o : Outcome). o .refused) (run-steps net ok t k r) ∙ steps-ended k t r .0
+  run-unrefused t k r = ap (λ (o : RunOutcome). o .refused) (run-steps net ok t k r) ∙ steps-ended k t r .0
 
   pub run-stops : (t : Table) (k : ℕ) → Reached net t → runOf net k t .done < k → Quiet net (runOf net k t .table)
   unfolding Ended
-  run-stops t k r = subst (λ (o : Outcome). o .done < k → Quiet net (o .table)) (sym (run-steps net ok t k r)) (steps-ended k t r .1)
+  run-stops t k r = subst (λ (o : RunOutcome). o .done < k → Quiet net (o .table)) (sym (run-steps net ok t k r)) (steps-ended k t r .1)
 
   -- ---- a run that goes on where another stopped
   idle : (k : ℕ) (t : Table) → firstIn (t .waiting) ≡ Found.Nowhere → steps net k t .table ≡ t
@@ -65,14 +65,14 @@ module _ (net : Network) (ok : Network16 net) where
 
   pub run-again : (t : Table) (a b : ℕ) → Reached net t → runOf net b (runOf net a t .table) .table ≡ runOf net (a + b) t .table
   run-again t a b r =
-      ap (λ (o : Outcome). o .table) (run-steps net ok (runOf net a t .table) b (run-reached net ok t a r))
-      ∙ ap (λ (o : Outcome). steps net b (o .table) .table) (run-steps net ok t a r)
+      ap (λ (o : RunOutcome). o .table) (run-steps net ok (runOf net a t .table) b (run-reached net ok t a r))
+      ∙ ap (λ (o : RunOutcome). steps net b (o .table) .table) (run-steps net ok t a r)
       ∙ steps-again a b t r
-      ∙ sym (ap (λ (o : Outcome). o .table) (run-steps net ok t (a + b) r))
+      ∙ sym (ap (λ (o : RunOutcome). o .table) (run-steps net ok t (a + b) r))
 
   -- ---- calls in a row
   rounds-are : (limits : List ℕ) (t : Table) → Reached net t → rounds net limits t ≡ runOf net (together limits) t .table
-  rounds-are [] t r = sym (ap (λ (o : Outcome). o .table) (run-steps net ok t 0 r))
+  rounds-are [] t r = sym (ap (λ (o : RunOutcome). o .table) (run-steps net ok t 0 r))
   rounds-are (k ∷ limits) t r = rounds-are limits (runOf net k t .table) (run-reached net ok t k r) ∙ run-again t k (together limits) r
 
   pub rounds-settle : (t : Table) (limits : List ℕ) → Reached net t → mostDeliveries net < together limits → Quiet net (rounds net limits t)

@@ -17,7 +17,7 @@ use Rattle.network.specs.Network.{Network, stacks, present}
 use Rattle.network.proofs.Laws.{valid, present-nodes}
 use Rattle.table.specs.Table.{Table, ceiling, rowsAll, place, nodeAt, destinationAt, numberAt, vertex, delivered, offersTaken}
 use Rattle.table.specs.Answers.{okMessageIn, waitsIn, okSenderIn, stepRefusalIn, refusal, stepRefusal, deliverRefusal, deliverTable}
-use Rattle.table.specs.Run.{Outcome, after, ends, turn, steps, runOf}
+use Rattle.table.specs.Run.{RunOutcome, after, ends, turn, steps, runOf}
 use Rattle.table.proofs.Rows.{Stack, Row, is-row, of-place, vertex-node, vertex-below}
 use Rattle.bridge.specs.Bridge.{graphOf, stateOf}
 use Rattle.bridge.proofs.States.{waiting-inside}
@@ -37,7 +37,7 @@ module _ (net : Network) (ok : Network16 net) where
 
   -- ---- so a run from t, or from a table s after it, is more deliveries
   module _ (t : Table) (r : Reached net t) where
-    turn-later : (rest : Table → Outcome) → ((s : Table) → Later net t s → Later net t (rest s .table)) → (s : Table) → Later net t s
+    turn-later : (rest : Table → RunOutcome) → ((s : Table) → Later net t s → Later net t (rest s .table)) → (s : Table) → Later net t s
         → (f : Found) → Later net t (turn net rest s f .table)
     turn-later rest on s l Found.Nowhere = l
     turn-later rest on s l (Found.At i U) = go (eqb (stepRefusal net s Q U D N) 0) refl
@@ -65,7 +65,7 @@ module _ (net : Network) (ok : Network16 net) where
   run-steps t k r = simp (eq-eqb (refusal net t) 0 (reached-refusal net ok r))
 
   pub run-later : (t : Table) (k : ℕ) → Reached net t → Later net t (runOf net k t .table)
-  run-later t k r = subst (λ (o : Outcome). Later net t (o .table)) (sym (run-steps t k r)) (steps-later t r k t now)
+  run-later t k r = subst (λ (o : RunOutcome). Later net t (o .table)) (sym (run-steps t k r)) (steps-later t r k t now)
 
   -- and so its table can come to be
   pub run-reached : (t : Table) (k : ℕ) → Reached net t → Reached net (runOf net k t .table)

@@ -17,7 +17,7 @@ use Rattle.words.specs.declared.Found.{Found}
 use Rattle.network.specs.Network.{Network}
 use Rattle.table.specs.Table.{Table, rowsEach, nodeAt, destinationAt, numberAt, fresh, delivered}
 use Rattle.table.specs.Answers.{refusal, stepRefusal, deliverRefusal}
-use Rattle.table.specs.Run.{Outcome, turn, steps, runOf}
+use Rattle.table.specs.Run.{RunOutcome, turn, steps, runOf}
 use Rattle.table.proofs.Deliveries.{goes}
 use Rattle.bridge.specs.Bridge.{graphOf, stateOf}
 use Rattle.promise.specs.Routes.{Network16, Reached, Done, begun, delivery, mostDeliveries, Quiet}
@@ -83,7 +83,7 @@ module _ (net : Network) where
       total-falls = sum-lt (net .n) (measureFor next) (measureFor t) none-rises E (goes net t Q U E N e .destination) falls
 
     -- ---- a turn ends the run quiet, or leaves less to do
-    turn-settles : (rest : Table → Outcome) (k : ℕ) → ((u : Table) → Reached net u → total u < k → Quiet net (rest u .table))
+    turn-settles : (rest : Table → RunOutcome) (k : ℕ) → ((u : Table) → Reached net u → total u < k → Quiet net (rest u .table))
         → (t : Table) → Reached net t → total t < suc k → (f : Found) → firstIn (t .waiting) ≡ f → Quiet net (turn net rest t f .table)
     turn-settles rest k on t r h Found.Nowhere e = nowhere-quiet (t .waiting) e
     turn-settles rest k on t r h (Found.At i U) e =
@@ -98,7 +98,7 @@ module _ (net : Network) where
     steps-settle (suc k) t r h = turn-settles (steps net k) k (λ u q l. steps-settle k u q l) t r h (firstIn (t .waiting)) refl
 
     pub settles : (t : Table) (k : ℕ) → Reached net t → mostDeliveries net < k → Quiet net (runOf net k t .table)
-    settles t k r h = subst (λ (o : Outcome). Quiet net (o .table)) (sym (run-steps net ok t k r)) (steps-settle k t r (omega (arith, total-most r)))
+    settles t k r h = subst (λ (o : RunOutcome). Quiet net (o .table)) (sym (run-steps net ok t k r)) (steps-settle k t r (omega (arith, total-most r)))
 
     -- ---- deliveries in any order: each has lowered the measure
     done-reached : {k : ℕ} {t : Table} → Done net k t → Reached net t

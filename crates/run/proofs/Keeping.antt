@@ -14,7 +14,7 @@ use Rattle.network.specs.Network.{Network, refusalOf}
 use Rattle.network.proofs.Laws.{valid}
 use Rattle.table.specs.Table.{Table, nodeAt, destinationAt, numberAt, offersTaken}
 use Rattle.table.specs.Answers.{refusal, stepRefusal}
-use Rattle.table.specs.Run.{Outcome, Runs, ends, steps, runOf}
+use Rattle.table.specs.Run.{RunOutcome, Runs, ends, steps, runOf}
 use Rattle.run.specs.Flags.{Flagged}
 use Rattle.run.specs.Turns.{Prepared, turnOf, turnAt, turnAnswer, Turned, continued}
 use Rattle.run.specs.declared.turns.Turn.{Turn}
@@ -89,10 +89,10 @@ module _ (net : Network) (s k : ℕ) (t₀ : Table) where
 
   ran : (d o r : ℕ) (t : Table) → steps net k t₀ ≡ continued d o (ends r t) → Runs (steps net k t₀) (record { done = d; offers = o; refused = r }) t
   ran d o r t e = record {
-    done = omega (arith, ap (λ (x : Outcome). x .done) e);
-    offers = omega (arith, ap (λ (x : Outcome). x .offers) e);
-    refused = sym (ap (λ (x : Outcome). x .refused) e);
-    table = sym (ap (λ (x : Outcome). x .table) e);
+    done = omega (arith, ap (λ (x : RunOutcome). x .done) e);
+    offers = omega (arith, ap (λ (x : RunOutcome). x .offers) e);
+    refused = sym (ap (λ (x : RunOutcome). x .refused) e);
+    table = sym (ap (λ (x : RunOutcome). x .table) e);
   }
 
   pub ran-ends : (d o r : ℕ) (t t′ : Table) (flags flags′ : List ℕ) (answer : Turn) → d < k → Keeps d o t flags
@@ -111,10 +111,10 @@ prepared net t s r = record { network = r .network; stacks-are = r .stacks-are; 
 
 pub run-begun : (net : Network) (k : ℕ) (t after : Table) (s : ℕ) (answer : Ran) → Ready net t s → Runs (steps net k t) answer after → Runs (runOf net k t) answer after
 unfolding runOf
-run-begun net k t after s answer r h = subst (λ (o : Outcome). Runs o answer after) (sym (begun net t s r (steps net k t) (ends (refusal net t) t))) h
+run-begun net k t after s answer r h = subst (λ (o : RunOutcome). Runs o answer after) (sym (begun net t s r (steps net k t) (ends (refusal net t) t))) h
 
 pub run-stopped : (net : Network) (k : ℕ) (t : Table) (r : ℕ) → (refusal net t ≡ r) × (1 ≤ r) → Runs (runOf net k t) (record { done = 0; offers = 0; refused = r }) t
 unfolding runOf
 run-stopped net k t r h =
-    subst (λ (o : Outcome). Runs o (record { done = 0; offers = 0; refused = r }) t) (sym (stopped net t r h (steps net k t) (ends (refusal net t) t)))
+    subst (λ (o : RunOutcome). Runs o (record { done = 0; offers = 0; refused = r }) t) (sym (stopped net t r h (steps net k t) (ends (refusal net t) t)))
     (record { done = refl; offers = refl; refused = sym (h .0); table = refl })

@@ -9,17 +9,17 @@ use Rattle.words.specs.declared.Found.{Found}
 use Rattle.network.specs.Network.{Network}
 use Rattle.table.specs.Table.{Table, nodeAt, destinationAt, numberAt, delivered, offersTaken}
 use Rattle.table.specs.Answers.{stepRefusal}
-use Rattle.table.specs.Run.{Outcome, after, ends, turn, steps}
+use Rattle.table.specs.Run.{RunOutcome, after, ends, turn, steps}
 use Rattle.table.specs.declared.Delivered.{Delivered}
 use Rattle.step.specs.InNetwork.{stepTable}
 use Rattle.run.specs.Turns.{turnOf, turnAt, tableAt, turnAnswer, turnTable, continued}
 use Rattle.run.specs.declared.turns.Turn.{Turn}
 
 -- two outcomes are equal by their parts
-outcome : (a b : Outcome) → a .done ≡ b .done → a .offers ≡ b .offers → a .refused ≡ b .refused → a .table ≡ b .table → a ≡ b
+outcome : (a b : RunOutcome) → a .done ≡ b .done → a .offers ≡ b .offers → a .refused ≡ b .refused → a .table ≡ b .table → a ≡ b
 outcome a b d o r t = λ i. record { done = d i; offers = o i; refused = r i; table = t i }
 
-module _ (net : Network) (t : Table) (rest : Table → Outcome) where
+module _ (net : Network) (t : Table) (rest : Table → RunOutcome) where
   -- the step of a turn, where it is refused and where not
   module _ (i U : ℕ) where
     abbrev refused : ℕ

@@ -10,7 +10,7 @@ use Rattle.words.specs.Words.{firstIn}
 use Rattle.words.specs.declared.Found.{Found}
 use Rattle.network.specs.Network.{Network, stacks, refusalOf}
 use Rattle.table.specs.Table.{Table, Sized, nodeAt, destinationAt, numberAt}
-use Rattle.table.specs.Run.{Outcome}
+use Rattle.table.specs.Run.{RunOutcome}
 use Rattle.table.specs.declared.Delivered.{Delivered}
 use Rattle.step.specs.InNetwork.{Equipped, stepAnswer, stepTable}
 use Rattle.run.specs.Flags.{Flagged}
@@ -66,5 +66,5 @@ pub record Turned (net : Network) (s : ℕ) (t : Table) (answer : Turn) (after :
   pub flagged : Flagged (net .n) s flags (after .waiting)
 
 -- a run that goes on after d deliveries with o offers
-abbrev pub continued : ℕ → ℕ → Outcome → Outcome
+abbrev pub continued : ℕ → ℕ → RunOutcome → RunOutcome
 continued d o rest = record { done = d + rest .done; offers = o + rest .offers; refused = rest .refused; table = rest .table }

@@ -22,8 +22,8 @@ use Rattle.step.proofs.Tells.{Passed, stopped}
 
 hear-passes : (g : Gateway) (m : Message) (r : Rows) → 1 ≤ g .p → g .p ≤ 8 → g .most ≤ 16384 → m .sender < 32 → m .destination < 32 → 1 ≤ m .number → m .number ≤ g .most
     → (m .destination + 1) * g .most ≤ length (r .costs) → length (r .ways) ≡ length (r .costs) → length (r .waiting) ≡ length (r .costs) → m .cost ≤ ceiling
-    → hearing.refusalOf g m r ≡ 0
-unfolding okHearing hearing.refusalOf
+    → hearing.hearRefusal g m r ≡ 0
+unfolding okHearing hearing.hearRefusal
 hear-passes g m r a b c d e f h i j k l =
     simp (
       le-leb 1 (g .p) a,
@@ -59,7 +59,7 @@ module _ (n : ℕ) (g : Gateway) (link : ℕ) (t : Table) (Q U D N : ℕ) where
       record { answers = simp (r .0) (ap Delivered.Refused (sym (r .1))); table = simp (r .0) }
 
   module _ (i c : ℕ) (x : Passed n (g .p) (g .most) link t Q U D N i c) where
-    nothing-refused : hearing.refusalOf g message rows ≡ 0
+    nothing-refused : hearing.hearRefusal g message rows ≡ 0
     unfolding rowsIn clearedAt
     nothing-refused =
         let z = x .sized in

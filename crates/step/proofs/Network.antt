@@ -58,8 +58,8 @@ module _ (net : Network) (t : Table) (right : refusalOf net ≡ 0) (sized : Size
       let few : stacks net ≤ 16384 = omega (arith, v .room, mul-le-mul-right (stacks net) (v .nodes), one-mul (stacks net)) in
       simp (le-leb 1 (net .p) (z .some), le-leb (net .p) 8 (z .few), le-leb (net .n) 32 (v .few), le-leb (stacks net) 16384 few, sized .costs, sized .ways, sized .waits, eq-eqb (net .n * (net .n * stacks net)) (net .n * (net .n * stacks net)) refl)
 
-  same-refusal : step.refusalOf (net .n) (net .p) (stacks net) (link net U Q) t Q U D N ≡ stepRefusal net t Q U D N
-  unfolding step.refusalOf
+  same-refusal : step.refusalIn (net .n) (net .p) (stacks net) (link net U Q) t Q U D N ≡ stepRefusal net t Q U D N
+  unfolding step.refusalIn
   same-refusal = simp sizes-right
 
   -- ---- and does what the delivery does

@@ -15,26 +15,26 @@ use Rattle.table.specs.Table.{Table, ceiling, placeIn, costIn}
 use Rattle.table.specs.Answers.{okMessageIn, waitsIn, okSenderIn, stepRefusalIn}
 use Rattle.table.proofs.Rows.{place-parts}
 use Rattle.table.proofs.Order.{four-first, five-next, seven-last, then-none, all-pass}
-use Rattle.step.specs.Step.{okRows, refusalOf}
+use Rattle.step.specs.Step.{okRows, refusalIn}
 use Rattle.step.specs.Steps.{toldOf}
 use Rattle.step.specs.declared.Told.{Told}
 use Rattle.step.proofs.Tests.{Sizes, sizes, Numbers, numbers, room}
 
 -- ---- what is answered at each test
 module _ (n p s link : ℕ) (t : Table) (Q U D N : ℕ) where
-  refused : (k : ℕ) → refusalOf n p s link t Q U D N ≡ k → eqb k 0 ≡ false → Told.Refused k ≡ toldOf n p s link t Q U D N
+  refused : (k : ℕ) → refusalIn n p s link t Q U D N ≡ k → eqb k 0 ≡ false → Told.Refused k ≡ toldOf n p s link t Q U D N
   refused k e some = simp (e, some)
 
   abbrev Fit : Type 0
   Fit = okRows n p s (length (t .cost)) (length (t .way)) (length (t .waiting)) ≡ true
 
   pub bad-sizes : okRows n p s (length (t .cost)) (length (t .way)) (length (t .waiting)) ≡ false → Told.Refused 3 ≡ toldOf n p s link t Q U D N
-  unfolding refusalOf
+  unfolding refusalIn
   bad-sizes e = refused 3 (simp e) refl
 
   -- sizes that are right: the delivery's own refusals are left
-  fits : Fit → refusalOf n p s link t Q U D N ≡ stepRefusalIn n s link t Q U D N
-  unfolding refusalOf
+  fits : Fit → refusalIn n p s link t Q U D N ≡ stepRefusalIn n s link t Q U D N
+  unfolding refusalIn
   fits fit = simp fit
 
   pub bad-numbers : Fit → okMessageIn n s Q U D N ≡ false → Told.Refused 4 ≡ toldOf n p s link t Q U D N
@@ -81,28 +81,28 @@ none-refused false r e = absurd (omega arith)
 
 module _ (n p s link : ℕ) (t : Table) (Q U D N : ℕ) where
   pub record Passed (i c : ℕ) : Type 0 where
-    pub nothing : refusalOf n p s link t Q U D N ≡ 0
+    pub nothing : refusalIn n p s link t Q U D N ≡ 0
     pub place-is : i ≡ placeIn n s Q D N
     pub cost-is : c ≡ costIn n s t Q D N
     pub sized : Sizes n p s (length (t .cost)) (length (t .way)) (length (t .waiting))
     pub numbered : Numbers n s Q U D N
     pub priced : c ≤ ceiling
 
-  good : refusalOf n p s link t Q U D N ≡ 0
+  good : refusalIn n p s link t Q U D N ≡ 0
       → (okRows n p s (length (t .cost)) (length (t .way)) (length (t .waiting)) ≡ true) × (okMessageIn n s Q U D N ≡ true) × (costIn n s t Q D N ≤ ceiling)
-  unfolding refusalOf okSenderIn
+  unfolding refusalIn okSenderIn
   good z =
       let r = none-refused (okRows n p s (length (t .cost)) (length (t .way)) (length (t .waiting))) (stepRefusalIn n s link t Q U D N) z in
       let a = all-pass n s link t Q U D N (r .1) in
       (r .0, a .0, leb-true (costIn n s t Q D N) ceiling (both (leb (costIn n s t Q D N) ceiling) (ltb 0 link) (a .2) .0))
 
   pub passed : (i c : ℕ) → toldOf n p s link t Q U D N ≡ Told.Row i c → Passed i c
-  passed i c e = go (eqb (refusalOf n p s link t Q U D N) 0) refl e
+  passed i c e = go (eqb (refusalIn n p s link t Q U D N) 0) refl e
     where
-      go : (b : Bool) → eqb (refusalOf n p s link t Q U D N) 0 ≡ b
-          → cond b (Told.Row (placeIn n s Q D N) (costIn n s t Q D N)) (Told.Refused (refusalOf n p s link t Q U D N)) ≡ Told.Row i c → Passed i c
+      go : (b : Bool) → eqb (refusalIn n p s link t Q U D N) 0 ≡ b
+          → cond b (Told.Row (placeIn n s Q D N) (costIn n s t Q D N)) (Told.Refused (refusalIn n p s link t Q U D N)) ≡ Told.Row i c → Passed i c
       go true q d =
-          let z = eqb-true (refusalOf n p s link t Q U D N) 0 q in
+          let z = eqb-true (refusalIn n p s link t Q U D N) 0 q in
           let a : placeIn n s Q D N ≡ i = cc in
           let f : costIn n s t Q D N ≡ c = cc in
           record {
@@ -115,12 +115,12 @@ module _ (n p s link : ℕ) (t : Table) (Q U D N : ℕ) where
           }
       go false q d = absurd (let z : _≡_ {A = ℕ} 0 1 = cc in omega arith)
 
-  pub stopped : (k : ℕ) → toldOf n p s link t Q U D N ≡ Told.Refused k → (eqb (refusalOf n p s link t Q U D N) 0 ≡ false) × (refusalOf n p s link t Q U D N ≡ k)
-  stopped k e = go (eqb (refusalOf n p s link t Q U D N) 0) refl e
+  pub stopped : (k : ℕ) → toldOf n p s link t Q U D N ≡ Told.Refused k → (eqb (refusalIn n p s link t Q U D N) 0 ≡ false) × (refusalIn n p s link t Q U D N ≡ k)
+  stopped k e = go (eqb (refusalIn n p s link t Q U D N) 0) refl e
     where
-      go : (b : Bool) → eqb (refusalOf n p s link t Q U D N) 0 ≡ b
-          → cond b (Told.Row (placeIn n s Q D N) (costIn n s t Q D N)) (Told.Refused (refusalOf n p s link t Q U D N)) ≡ Told.Refused k
-          → (eqb (refusalOf n p s link t Q U D N) 0 ≡ false) × (refusalOf n p s link t Q U D N ≡ k)
+      go : (b : Bool) → eqb (refusalIn n p s link t Q U D N) 0 ≡ b
+          → cond b (Told.Row (placeIn n s Q D N) (costIn n s t Q D N)) (Told.Refused (refusalIn n p s link t Q U D N)) ≡ Told.Refused k
+          → (eqb (refusalIn n p s link t Q U D N) 0 ≡ false) × (refusalIn n p s link t Q U D N ≡ k)
       go true q d = absurd (let z : _≡_ {A = ℕ} 0 1 = cc in omega arith)
       go false q d = (q, (cc))
 

@@ -18,14 +18,14 @@ okRows n p s costs ways waits =
     && (eqb costs (n * (n * s)) && (eqb ways (n * (n * s)) && eqb waits (n * (n * s)))))))
 
 -- the first refusal that applies, and 0 where none does; the link back costs `back`
-unfoldable pub refusalOf : (n p s back : ℕ) (t : Table) (Q U D N : ℕ) → ℕ
-refusalOf n p s back t Q U D N =
+unfoldable pub refusalIn : (n p s back : ℕ) (t : Table) (Q U D N : ℕ) → ℕ
+refusalIn n p s back t Q U D N =
     unless (okRows n p s (length (t .cost)) (length (t .way)) (length (t .waiting))) 3 (stepRefusalIn n s back t Q U D N)
 
 -- the message from Q to U, which is the gateway g, about D and the stack number N
 module _ (n : ℕ) (g : Gateway) (back : ℕ) (t : Table) (Q U D N : ℕ) where
   abbrev pub refusal : ℕ
-  refusal = refusalOf n (g .p) (g .most) back t Q U D N
+  refusal = refusalIn n (g .p) (g .most) back t Q U D N
 
   -- what `step` answers, and the table that it leaves
   abbrev pub answerOf : Delivered

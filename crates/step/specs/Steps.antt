@@ -5,13 +5,13 @@ use lib.Dec.{eqb}
 use Rattle.hear.specs.declared.Heard.{Heard}
 use Rattle.table.specs.Table.{Table, placeIn, costIn}
 use Rattle.table.specs.declared.Delivered.{Delivered}
-use Rattle.step.specs.Step.{refusalOf}
+use Rattle.step.specs.Step.{refusalIn}
 use Rattle.step.specs.declared.Told.{Told}
 
 -- read_row: where the row stands and what it costs, or the refusal
 abbrev pub toldOf : (n p s back : ℕ) (t : Table) (Q U D N : ℕ) → Told
 toldOf n p s back t Q U D N =
-    cond (eqb (refusalOf n p s back t Q U D N) 0) (Told.Row (placeIn n s Q D N) (costIn n s t Q D N)) (Told.Refused (refusalOf n p s back t Q U D N))
+    cond (eqb (refusalIn n p s back t Q U D N) 0) (Told.Row (placeIn n s Q D N) (costIn n s t Q D N)) (Told.Refused (refusalIn n p s back t Q U D N))
 
 -- answer: the receiver's answer is the delivery's
 abbrev pub answerIn : Heard → Delivered

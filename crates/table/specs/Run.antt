@@ -11,43 +11,43 @@ use Rattle.table.specs.Answers.{refusal, stepRefusal}
 use Rattle.table.specs.declared.Ran.{Ran}
 
 -- deliveries done, offers that rows took, the refusal that ended the run or 0, and the table then
-pub record Outcome : Type 0 where
+pub record RunOutcome : Type 0 where
   pub done : ℕ
   pub offers : ℕ
   pub refused : ℕ
   pub table : Table
 
 -- what a run answers and leaves is this outcome
-pub record Runs (o : Outcome) (answer : Ran) (after : Table) : Type 0 where
+pub record Runs (o : RunOutcome) (answer : Ran) (after : Table) : Type 0 where
   pub done : answer .done ≡ o .done
   pub offers : answer .offers ≡ o .offers
   pub refused : answer .refused ≡ o .refused
   pub table : after ≡ o .table
 
 -- one delivery more in front of a run
-abbrev pub after : ℕ → Outcome → Outcome
+abbrev pub after : ℕ → RunOutcome → RunOutcome
 after offers o = record { done = suc (o .done); offers = offers + o .offers; refused = o .refused; table = o .table }
 
 -- a run that ends here
-abbrev pub ends : ℕ → Table → Outcome
+abbrev pub ends : ℕ → Table → RunOutcome
 ends refused t = record { done = 0; offers = 0; refused = refused; table = t }
 
 module _ (net : Network) where
   -- One delivery of a run, with `rest` for the turns that are left: "where a broken table makes a delivery refuse, run returns that number with
   -- the count of deliveries it made, keeps those, and the refused one changes nothing".
-  abbrev pub delivering : (Table → Outcome) → Table → ℕ → ℕ → ℕ → ℕ → Outcome
+  abbrev pub delivering : (Table → RunOutcome) → Table → ℕ → ℕ → ℕ → ℕ → RunOutcome
   delivering rest t Q U D N =
       cond (eqb (stepRefusal net t Q U D N) 0) (after (offersTaken net t Q U D N) (rest (delivered net t Q U D N))) (ends (stepRefusal net t Q U D N) t)
 
   -- one turn at what the search found
-  abbrev pub turn : (Table → Outcome) → Table → Found → Outcome
+  abbrev pub turn : (Table → RunOutcome) → Table → Found → RunOutcome
   turn rest t Found.Nowhere = ends 0 t
   turn rest t (Found.At i U) = delivering rest t (nodeAt net i) U (destinationAt net i) (numberAt net i)
 
-  abbrev pub steps : ℕ → Table → Outcome
+  abbrev pub steps : ℕ → Table → RunOutcome
   steps zero t = ends 0 t
   steps (suc k) t = turn (steps k) t (firstIn (t .waiting))
 
   -- run, for every input
-  unfoldable pub runOf : ℕ → Table → Outcome
+  unfoldable pub runOf : ℕ → Table → RunOutcome
   runOf k t = cond (eqb (refusal net t) 0) (steps k t) (ends (refusal net t) t)
