@@ -1,5 +1,5 @@
 -- The homes of the table: the rows that `fresh` sets, and the lists while it sets them. Each law is over plain numbers and lists.
-use Prim.Native.Nat.{ℕ, suc, _+_, _-_, _*_, _/_, _%_, _≤_, _<_}
+use Prim.Native.Nat.{ℕ, zero, suc, _+_, _-_, _*_, _/_, _%_, _≤_, _<_}
 use native.Mathlib.Nat.{mul-le-mul, mul-le-mul-right, mul-assoc, suc-mul, le-of-lt, div-add-mod'}
 use native.Mathlib.Decide.{decLt}
 use native.Mathlib.Omega.{arith}
@@ -8,12 +8,16 @@ use mathlib.Core.Logic.{by-cases}
 use mathlib.Core.List.{List}
 use mathlib.Core.Bool.{Bool, true, false, cond, _&&_}
 use lib.Arith.{digits-lt, digits-div, digits-mod}
-use lib.ListN.{length, set}
+use lib.ListN.{length, getD, set}
 use lib.Dec.{leb, ltb, eqb}
 use borrow.Author.Tests.{lt-ltb, le-ltb, le-leb, eq-eqb, eqb-true, leb-true}
-use Rattle.lists.specs.Lists.{tabulate}
-use Rattle.lists.proofs.Tables.{length-tabulate, tabulate-same, set-tabulate}
+use Rattle.lists.specs.Lists.{tabulateFrom, tabulate}
+use Rattle.lists.proofs.Tables.{length-tabulate, getD-tabulate, tabulate-same, set-tabulate}
 use Rattle.lists.proofs.Tests.{both, bool-cases}
+use Rattle.bits.specs.Bits.{onesOf}
+use Rattle.bits.proofs.Counts.{ones-le, ones-zero}
+use Rattle.words.specs.Words.{onesIn}
+use Rattle.words.proofs.Search.{onesIn-most, onesIn-set}
 use Rattle.gateways.specs.Gateways.{receivesAt}
 use Rattle.fresh.specs.Filling.{Shape, setBelow, isHome}
 
@@ -34,6 +38,11 @@ module _ (r : ℕ) (test : ℕ → Bool) (value : ℕ → ℕ) (other : ℕ) whe
   unfolding setBelow
   below-all k all = tabulate-same 0 r _ (λ i. cond (test i) (value i) other)
       (λ i b. ap (λ (t : Bool). cond (t && test i) (value i) other) (lt-ltb i k (omega arith)))
+
+  -- at k nothing is set yet
+  below-here : (k : ℕ) → k < r → getD (setBelow r test value other k) k 0 ≡ other
+  unfolding setBelow
+  below-here k low = getD-tabulate r _ k 0 low ∙ ap (λ (t : Bool). cond (t && test k) (value k) other) (le-ltb k k (omega arith))
 
   -- nothing to set from k up to m
   pub below-jump : (k m : ℕ) → k ≤ m → ((i : ℕ) → k ≤ i → i < m → test i ≡ false) → setBelow r test value other k ≡ setBelow r test value other m
@@ -63,6 +72,18 @@ module _ (r : ℕ) (test : ℕ → Bool) (value : ℕ → ℕ) (other : ℕ) whe
       same i n = by-cases (decLt i k)
           (λ lo. ap (λ (t : Bool). cond (t && test i) (value i) other) (lt-ltb i k lo ∙ sym (lt-ltb i (k + 1) (omega arith))))
           (λ hi. ap (λ (t : Bool). cond (t && test i) (value i) other) (le-ltb i k (omega arith) ∙ sym (le-ltb i (k + 1) (omega arith))))
+
+-- before the first word is set no message waits
+zeros : (r : ℕ) → onesIn (tabulate r (λ i. 0)) ≡ 0
+unfolding onesIn tabulate
+zeros r = go 0 r
+  where
+    go : (i k : ℕ) → onesIn (tabulateFrom i k (λ j. 0)) ≡ 0
+    go i zero = refl
+    go i (suc k) = omega (arith, ones-zero, go (suc i) k)
+
+pub none-waits : (r : ℕ) (test : ℕ → Bool) (value : ℕ → ℕ) → onesIn (setBelow r test value 0 0) ≡ 0
+none-waits r test value = ap onesIn (sym (below-none r test value 0)) ∙ zeros r
 
 -- ---- the places of the nodes' own rows: node d has them from (d * n + d) * S on
 module _ (n p S : ℕ) (shape : Shape n p S) where
@@ -164,3 +185,19 @@ module _ (n p S : ℕ) (shape : Shape n p S) (functions : List ℕ) where
     turn-last x last e =
         e ∙ ap (λ (k : ℕ). setBelow (n * (n * S)) (isHome n p S functions) value other ((d * n + d) * S + k)) last
         ∙ below-jump (n * (n * S)) (isHome n p S functions) value other ((d * n + d) * S + p) (((d + 1) * n + (d + 1)) * S) (next-node n p S shape d) (no-home d)
+
+  -- ---- the messages, counted while the waiting words are set
+  module _ (value : ℕ → ℕ) (d x : ℕ) (low : d < n) (small : x < p) (list : List ℕ)
+      (e : list ≡ setBelow (n * (n * S)) (isHome n p S functions) value 0 ((d * n + d) * S + x))
+      (messages each w : ℕ) (ones : each ≡ onesOf w) (counted : messages ≡ onesIn list) where
+    pub messages-fit : messages + each ≤ 16777248
+    messages-fit =
+        omega (arith, ones, ones-le w, counted, onesIn-most list, below-length _ _ _ _ _ list e, rows-most n p S shape)
+
+    pub messages-more : messages + each ≡ onesIn (set list ((d * n + d) * S + x) w)
+    messages-more =
+        let row = place-low n p S shape d x low small in
+        let inside : (d * n + d) * S + x < length list = omega (arith, row, below-length _ _ _ _ _ list e) in
+        let clear : getD list ((d * n + d) * S + x) 0 ≡ 0 =
+        ap (λ (l : List ℕ). getD l ((d * n + d) * S + x) 0) e ∙ below-here (n * (n * S)) (isHome n p S functions) value 0 ((d * n + d) * S + x) row in
+        ap₂ _+_ counted ones ∙ sym (onesIn-set list ((d * n + d) * S + x) w inside clear)

@@ -9,8 +9,7 @@ use Rattle.lists.specs.Lists.{tabulate}
 use Rattle.lists.proofs.Tables.{tabulate-same}
 use Rattle.stacks.proofs.Count.{count-some}
 use Rattle.stacks.proofs.Tests.{sizes}
-use Rattle.words.specs.Words.{onesIn, onesAnswer}
-use Rattle.words.proofs.Search.{count-few}
+use Rattle.words.specs.Words.{onesIn}
 use Rattle.network.specs.Network.{Network, stacks, neighbours}
 use Rattle.network.proofs.Laws.{valid}
 use Rattle.table.specs.Table.{Table, tableOf, noRow, noWay, rowsAll, homeAt, home, fresh}
@@ -18,7 +17,7 @@ use Rattle.table.specs.Answers.{refusal, freshAnswer, freshTable}
 use Rattle.fresh.specs.Filling.{Shape, setBelow, isHome, costsBelow, waitsBelow}
 use Rattle.table.specs.declared.Counted.{Counted}
 use Rattle.table.proofs.Begins.{Ready, begun, stopped}
-use Rattle.fresh.proofs.HomePlaces.{below-length, below-none, below-all, past-rows, rows-most}
+use Rattle.fresh.proofs.HomePlaces.{below-none, below-all, past-rows}
 
 -- the homes of the filling are those of the specification
 home-same : (net : Network) (i : ℕ) → isHome (net .n) (net .p) (stacks net) (net .functions) i ≡ homeAt net i
@@ -80,10 +79,9 @@ module _ (net : Network) (t : Table) (s : ℕ) (ready : Ready net t s) where
         ∙ ap (λ (l : List ℕ). tableOf (fresh net .cost) (fresh net .way) l) waiting-fresh
         ∙ sym (begun net t s ready (fresh net) t)
 
-    pub fresh-count : (r : ℕ) → r ≡ onesAnswer waiting → Counted.Messages r ≡ freshAnswer net t
+    pub fresh-count : (r : ℕ) → r ≡ onesIn waiting → Counted.Messages r ≡ freshAnswer net t
     fresh-count r e =
-        let few : length waiting ≤ 524288 = omega (arith, below-length _ _ _ _ _ waiting waits, rows-most (net .n) (net .p) s shape-of) in
-        ap Counted.Messages (e ∙ count-few waiting few ∙ ap onesIn waiting-fresh)
+        ap Counted.Messages (e ∙ ap onesIn waiting-fresh)
         ∙ sym (begun net t s ready (Counted.Messages (onesIn (fresh net .waiting))) _)
 
 -- a refusal leaves the table as it was

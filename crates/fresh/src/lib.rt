@@ -44,8 +44,7 @@ pub fn fresh(
             fill_words(cost, 4294967295);
             fill_ways(way, 65535);
             fill_words(waiting, 0);
-            all_homes(n, p, stacks, links, functions, cost, waiting);
-            Counted::Messages(words::ones_in(waiting))
+            Counted::Messages(all_homes(n, p, stacks, links, functions, cost, waiting))
         }
         Checked::Refused(refusal) => Counted::Refused(refusal),
     }

@@ -1,15 +1,14 @@
 -- What fresh, count and first waiting answer is within the ranges of specs/Ranges.antt.
-use Prim.Native.Nat.{ℕ, _*_, _≤_, min}
+use Prim.Native.Nat.{ℕ, _≤_, min}
 use native.Mathlib.Omega.{arith}
 use mathlib.Core.Path.{_≡_, refl, _∙_}
-use mathlib.Core.List.{List, [], _∷_}
 use lib.ListN.{length, getD}
 use lib.Count.{trailing-le}
 use Rattle.lists.proofs.Tables.{length-tabulate}
-use Rattle.bits.proofs.Counts.{ones-le}
 use Rattle.bits.proofs.LowestBit.{lowest-is-library}
 use Rattle.words.specs.Words.{onesIn, firstIn}
 use Rattle.words.specs.declared.Found.{Found}
+use Rattle.words.proofs.Search.{onesIn-most}
 use Rattle.words.proofs.Answers.{Here, first-at, first-whole}
 use Rattle.network.specs.Network.{Network, stacks}
 use Rattle.network.proofs.Laws.{valid}
@@ -24,20 +23,15 @@ use Rattle.packing.specs.Ranges.{RefusalFits}
 use Rattle.table_exports.specs.Ranges.{CountedFits, FirstFits}
 
 -- ---- the count of messages: 32 bits to a word
-ones-most : (ws : List ℕ) → onesIn ws ≤ 32 * length ws
-unfolding onesIn
-ones-most [] = omega arith
-ones-most (w ∷ ws) = omega (arith, ones-le w, ones-most ws)
-
 pub count-most : (net : Network) (t : Table) → Ready net t (stacks net) → onesIn (t .waiting) ≤ 16777216
-count-most net t r = omega (arith, ones-most (t .waiting), rows-few net t (stacks net) r .0)
+count-most net t r = omega (arith, onesIn-most (t .waiting), rows-few net t (stacks net) r .0)
 
 fresh-long : (net : Network) → length (fresh net .waiting) ≡ rowsAll net
 unfolding fresh
 fresh-long net = length-tabulate (rowsAll net) _
 
 fresh-most : (net : Network) (t : Table) → Ready net t (stacks net) → onesIn (fresh net .waiting) ≤ 16777216
-fresh-most net t r = omega (arith, ones-most (fresh net .waiting), fresh-long net, rows-few net t (stacks net) r .2)
+fresh-most net t r = omega (arith, onesIn-most (fresh net .waiting), fresh-long net, rows-few net t (stacks net) r .2)
 
 -- a table's refusals are within the range
 fits : {r : ℕ} → 1 ≤ r → r ≤ 3 → RefusalFits r

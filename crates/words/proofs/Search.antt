@@ -1,17 +1,18 @@
 -- Laws of the walks over a list of words: the count of all set bits, and the first word that is not 0.
 use mathlib.Core.Path.{_≡_, sym, ap, ap₂, _∙_}
 use mathlib.Core.Bool.{Bool, cond}
-use mathlib.Core.List.{List, _∷_}
-use Prim.Native.Nat.{ℕ, suc, _+_, _-_, _≤_, _<_, min}
+use mathlib.Core.List.{List, [], _∷_}
+use Prim.Native.Nat.{ℕ, zero, suc, _+_, _-_, _*_, _≤_, _<_, min}
 use native.Mathlib.Decide.{decLt}
 use native.Mathlib.Numerals.{add-one}
 use native.Mathlib.Omega.{arith}
 use borrow.Author.Tests.{eq-eqb, ne-eqb, le-leb, lt-leb}
 use lib.Bits.{bitOr}
-use lib.ListN.{length, take, drop, getD, length-drop, drop-of-length-le}
+use lib.ListN.{length, take, drop, getD, set, length-drop, drop-of-length-le}
 use lib.Seq.{drop-cons, take-all}
 use Rattle.bits.specs.Bits.{lowest, onesOf}
 use Rattle.bits.proofs.Bits.{zero-of-or}
+use Rattle.bits.proofs.Counts.{ones-le, ones-zero}
 use Rattle.words.specs.declared.Found.the-variants.{Nowhere, At}
 use Rattle.words.specs.Words.{onesIn, onesAnswer, firstSetFrom, firstBetween}
 
@@ -31,6 +32,19 @@ onesIn-next ws i h = rw (add-one, drop-cons ws i 0)
 pub onesIn-end : (ws : List ℕ) (i : ℕ) → length ws ≤ i → onesIn (drop i ws) ≡ 0
 unfolding onesIn
 onesIn-end ws i h = ap onesIn (drop-of-length-le ws h)
+
+-- each word has at most 32 set bits
+pub onesIn-most : (ws : List ℕ) → onesIn ws ≤ 32 * length ws
+unfolding onesIn
+onesIn-most [] = omega arith
+onesIn-most (w ∷ ws) = omega (arith, ones-le w, onesIn-most ws)
+
+-- a word in the place of a 0 adds its own
+pub onesIn-set : (ws : List ℕ) (i w : ℕ) → i < length ws → getD ws i 0 ≡ 0 → onesIn (set ws i w) ≡ onesIn ws + onesOf w
+unfolding onesIn
+onesIn-set [] i w h e = absurd (omega arith)
+onesIn-set (v ∷ ws) zero w h e = let none : onesOf v ≡ 0 = ap onesOf e ∙ ones-zero in omega (arith, none)
+onesIn-set (v ∷ ws) (suc i) w h e = omega (arith, onesIn-set ws i w (omega arith) e)
 
 -- ---- the first word that is not 0
 part-cons : (ws : List ℕ) (i to : ℕ) → i < to → i < length ws

@@ -39,9 +39,6 @@ all-homes-requires c κs =
       none-yet _ _ _ r _ _ _ _ _ (r .waiting-long) (c .before .before .before .before .fill-words2 .ensures),
     )
 
-ones-in-requires : tie.Need-ones-in-requires
-ones-in-requires c κs = search needs
-
 enum-known-refusal : tie.Need-enum-known-refusal
 enum-known-refusal c = search needs
 
@@ -56,10 +53,10 @@ same-length-3 c = search needs
 
 returns : tie.Need-returns
 returns c =
-    let r = found (c .before .before .before .before .before .before .before .before .before .before .before .before .before .before .before .before .before .before .before .before .before .before) in
-    let set = c .before .before .before .before .before .before .all-homes .ensures in
-    let ways = c .before .before .before .before .before .before .before .before .before .before .before .before .before .before .before .fill-ways .ensures in (
-      fresh-count _ _ _ r _ _ _ (set .0) ways (set .1) _ (c .ones-in .ensures),
+    let r = found (c .before .before .before .before .before .before .before .before .before .before .before .before .before .before .before .before .before .before .before .before) in
+    let set = c .before .before .before .before .all-homes .ensures in
+    let ways = c .before .before .before .before .before .before .before .before .before .before .before .before .before .fill-ways .ensures in (
+      fresh-count _ _ _ r _ _ _ (set .0) ways (set .1) _ (set .2),
       fresh-table _ _ _ r _ _ _ (set .0) ways (set .1),
     )
 
@@ -79,7 +76,6 @@ fresh-spec =
     fill-ways-requires
     fill-words-requires-2
     all-homes-requires
-    ones-in-requires
     enum-known-refusal
     same-length
     same-length-2
