@@ -14,6 +14,7 @@ use borrow.Author.Tests.{lt-ltb, le-ltb, le-leb, eq-eqb, eqb-true, leb-true}
 use Rattle.lists.specs.Lists.{tabulateFrom, tabulate}
 use Rattle.lists.proofs.Tables.{length-tabulate, getD-tabulate, tabulate-same, set-tabulate}
 use Rattle.lists.proofs.Tests.{both, bool-cases}
+use Rattle.stacks.specs.Stacks.{oneTo}
 use Rattle.bits.specs.Bits.{onesOf}
 use Rattle.bits.proofs.Counts.{ones-le, ones-zero}
 use Rattle.words.specs.Words.{onesIn}
@@ -136,9 +137,10 @@ module _ (n p S : ℕ) (shape : Shape n p S) (functions : List ℕ) where
   unfolding isHome
   place-home d x low small =
       let stack : x < S = omega (arith, shape .single) in
+      let some : 1 ≤ x + 1 = omega arith in
       let within : x + 1 ≤ p = omega arith in
       let same : x + 1 - 1 ≡ x = omega arith in
-      simp (digits-div (d * n + d) stack, digits-mod (d * n + d) stack, digits-div d low, digits-mod d low, eq-eqb d d refl, le-leb (x + 1) p within, same)
+      simp (digits-div (d * n + d) stack, digits-mod (d * n + d) stack, digits-div d low, digits-mod d low, eq-eqb d d refl, le-leb 1 (x + 1) some, le-leb (x + 1) p within, same)
 
   -- the place of a home by its node and protocol
   home-place : (i : ℕ) → isHome n p S functions i ≡ true → ((i / S / n * n + i / S / n) * S + i % S ≡ i) × (i % S < p)
@@ -147,7 +149,7 @@ module _ (n p S : ℕ) (shape : Shape n p S) (functions : List ℕ) where
       let t = both (eqb (i / S / n) (i / S % n)) _ e in
       let own = eqb-true (i / S / n) (i / S % n) (t .0) in
       let row : i / S / n * n + i / S / n ≡ i / S = ap (λ (k : ℕ). i / S / n * n + k) own ∙ div-add-mod' (i / S) n in
-      (ap (λ (k : ℕ). k * S + i % S) row ∙ div-add-mod' i S, omega (arith, leb-true (i % S + 1) p (both (leb (i % S + 1) p) _ (t .1) .0)))
+      (ap (λ (k : ℕ). k * S + i % S) row ∙ div-add-mod' i S, omega (arith, leb-true (i % S + 1) p (both (leb 1 (i % S + 1)) (leb (i % S + 1) p) (both (oneTo p (i % S + 1)) _ (t .1) .0) .1)))
 
   -- between the protocols of node d and the next node's rows there is no home
   no-home : (d i : ℕ) → (d * n + d) * S + p ≤ i → i < ((d + 1) * n + (d + 1)) * S → isHome n p S functions i ≡ false

@@ -7,7 +7,7 @@ use mathlib.Core.Bool.{true, _&&_}
 use lib.Dec.{leb, eqb}
 use borrow.Author.Tests.{leb-true, eqb-true, lt-ltb, le-leb, eq-eqb}
 use Rattle.lists.proofs.Tests.{both}
-use Rattle.stacks.specs.Stacks.{okStack, number, stackOf}
+use Rattle.stacks.specs.Stacks.{oneTo, okStack, number, stackOf}
 use Rattle.stacks.proofs.Laws.{stack-of-number}
 use Rattle.stacks.proofs.Tests.{sizes, good-ok}
 use Rattle.network.specs.Network.{Network}
@@ -37,7 +37,7 @@ module _ (net : Network) (ok : Network16 net) where
       let low = accepts-below net D x e .1 in
       let number-is = number-one (net .p) x in
       let below : number (net .p) (x ∷ []) - 1 ≡ x = omega arith in
-      simp (eq-eqb D D refl, le-leb (number (net .p) (x ∷ [])) (net .p) (omega arith), below) e
+      simp (eq-eqb D D refl, le-leb 1 (number (net .p) (x ∷ [])) (omega arith), le-leb (number (net .p) (x ∷ [])) (net .p) (omega arith), below) e
 
   -- and no other stack is
   pub record Home (U D N : ℕ) : Type 0 where
@@ -48,9 +48,9 @@ module _ (net : Network) (ok : Network16 net) where
   pub at-home : (U D N : ℕ) → 1 ≤ N → home net U D N ≡ true → Home U D N
   unfolding home accepts
   at-home U D N some e =
-      let a = both (eqb U D) (leb N (net .p) && accepts net D (N - 1)) e in
-      let b = both (leb N (net .p)) (accepts net D (N - 1)) (a .1) in
-      let low : N - 1 < net .p = omega (arith, leb-true N (net .p) (b .0)) in
+      let a = both (eqb U D) (oneTo (net .p) N && accepts net D (N - 1)) e in
+      let b = both (oneTo (net .p) N) (accepts net D (N - 1)) (a .1) in
+      let low : N - 1 < net .p = omega (arith, leb-true N (net .p) (both (leb 1 N) (leb N (net .p)) (b .0) .1)) in
       let number-is : number (net .p) ((N - 1) ∷ []) ≡ N = omega (arith, number-one (net .p) (N - 1)) in
       record {
         there = eqb-true U D (a .0);

@@ -4,10 +4,11 @@ use mathlib.Core.Path.{_≡_}
 use mathlib.Core.List.{List}
 use mathlib.Core.Bool.{Bool, cond, _&&_}
 use lib.ListN.{length, getD, set}
-use lib.Dec.{leb, eqb}
+use lib.Dec.{eqb}
 use borrow.Rule.Slice.PartMut.{midOf, putMid}
 use Rattle.lists.specs.Lists.{tabulate}
 use Rattle.relax.specs.Graph as graph
+use Rattle.stacks.specs.Stacks.{oneTo}
 use Rattle.network.specs.Network.{Network, stacks, link, neighbours}
 use Rattle.gateways.specs.Gateways.{word, receivesAt}
 use Rattle.bits.specs.Bits.{without}
@@ -37,10 +38,9 @@ ceiling = hearing.ceiling
 abbrev pub placeIn : ℕ → ℕ → ℕ → ℕ → ℕ → ℕ
 placeIn n s U D N = (U * n + D) * s + (N - 1)
 
--- "For each D and each protocol x that D accepts, the row at D for D and stack x": the stack of one protocol x has number x + 1.
--- (No stack has number 0, and none is asked about.)
+-- "For each D and each protocol x that D accepts, the row at D for D and stack x": the stack of one protocol x has number x + 1
 abbrev pub homeIn : ℕ → ℕ → List ℕ → ℕ → ℕ → ℕ → Bool
-homeIn n p functions U D N = eqb U D && (leb N p && receivesAt n p functions D (N - 1))
+homeIn n p functions U D N = eqb U D && (oneTo p N && receivesAt n p functions D (N - 1))
 
 -- where each gateway has so many rows: those of gateway U, which stand together, and the table with other rows in their place
 unfoldable pub rowsIn : ℕ → ℕ → Table → Rows
