@@ -7,7 +7,8 @@ use network::Checked;
 use table::Delivered;
 use table::ready::ready;
 
-// One waiting message is delivered: the sender's bit is cleared, and the receiver's rows take the offers that are cheaper.
+// One waiting message is delivered: the sender's bit is cleared, and the receiver's rows take the offers that are cheaper. The neighbours and grids are
+// worked out before `step` makes its tests, since a delivery is seldom refused.
 pub fn deliver(
     n: usize,
     p: usize,

@@ -10,7 +10,7 @@ use Rattle.words.specs.declared.Found.{Found}
 use Rattle.network.specs.Network.{Network, stacks}
 use Rattle.table.specs.Table.{Table, nodeAt, destinationAt, numberAt, offersTaken, delivered}
 use Rattle.table.specs.Answers.{stepRefusalIn, refusal, okMessage, waits, okSender, stepRefusal, deliverRefusal, deliverAnswer}
-use Rattle.table.specs.Run.{RunOutcome, after, ends, turn, steps, runOf}
+use Rattle.table.specs.Run.{RunOutcome, oneMore, ends, turn, steps, runOf}
 use Rattle.table.specs.declared.Delivered.{Delivered}
 use Rattle.table.proofs.Begins.{rows-few}
 use Rattle.table.proofs.Refusals.{refusal-few, ready-then}
@@ -53,7 +53,7 @@ module _ (net : Network) where
   turn-few rest less t (Found.At i U) = go (eqb (stepRefusal net t (nodeAt net i) U (destinationAt net i) (numberAt net i)) 0)
     where
       go : (b : Bool) → cond b
-          (after (offersTaken net t (nodeAt net i) U (destinationAt net i) (numberAt net i)) (rest (delivered net t (nodeAt net i) U (destinationAt net i) (numberAt net i))))
+          (oneMore (offersTaken net t (nodeAt net i) U (destinationAt net i) (numberAt net i)) (rest (delivered net t (nodeAt net i) U (destinationAt net i) (numberAt net i))))
           (ends (stepRefusal net t (nodeAt net i) U (destinationAt net i) (numberAt net i)) t) .refused ≤ 7
       go true = less (delivered net t (nodeAt net i) U (destinationAt net i) (numberAt net i))
       go false = step-few net t (nodeAt net i) U (destinationAt net i) (numberAt net i)

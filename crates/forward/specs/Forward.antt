@@ -9,7 +9,7 @@ use Rattle.gateways.specs.Gateways.{can}
 use Rattle.table.specs.Table.{Table, noRow, ceiling, costIn, place, home}
 use Rattle.forward.specs.declared.Look.{Look}
 
--- Refusal 7 is given but where this holds of U's row, with cost c and way w, whose function makes stack number M: "cost 0 or above the ceiling,
+-- Where this fails of U's row, with cost c and way w, whose function makes stack number M, refusal 7 is given: "cost 0 or above the ceiling,
 -- or the way names no node, link or available applicable function"
 abbrev pub okWay : Network → ℕ → ℕ → ℕ → ℕ → Bool
 okWay net U c w M = leb 1 c && (leb c ceiling && (present net U (w / 256) && (can net U (w % 256) && ltb 0 M)))

@@ -68,13 +68,13 @@ fn row_answer(
 ) -> Look
     ensures { λ r. ⌜ r ≡ rowAnswer (networkOf n p h (now (links .entry)) (now (functions .entry))) stacks false node number paid named ⌝ }
 {
-    if paid == 4294967295 {
+    if paid == 4294967295 { // no row
         return Look::Refused(6);
     }
     if paid == 0 {
         return Look::Refused(7);
     }
-    if 2147303427 < paid {
+    if 2147303427 < paid { // the ceiling
         return Look::Refused(7);
     }
     let next = named / 256;

@@ -41,8 +41,8 @@ pub fn fresh(
         waiting.len(),
     ) {
         Checked::Stacks(stacks) => {
-            fill_words(cost, 4294967295);
-            fill_ways(way, 65535);
+            fill_words(cost, 4294967295); // no row
+            fill_ways(way, 65535); // no way
             fill_words(waiting, 0);
             Counted::Messages(all_homes(n, p, stacks, links, functions, cost, waiting))
         }

@@ -3,7 +3,7 @@ ghost use mathlib.Core.Path.{_≡_};
 ghost use Rattle.lists.specs.Lists.{tabulate};
 ghost use Rattle.gateways.specs.Gateways.{wordAt, receivesAt, gridOf};
 
-// What a node's function of a kind, from protocol a and to protocol b, is written down as: 0, or its price and 1.
+// The word of a node's function of a kind on protocols a and b: its price plus 1, and 0 where the node can't or a number is out of range.
 pub fn word_at(
     n: usize,
     p: usize,
@@ -49,7 +49,7 @@ fn grid_row(n: usize, p: usize, functions: &[u16], node: usize, kind: usize, a: 
     row
 }
 
-// One node's words of one kind, row a and column b.
+// One node's words of one kind, row a and column b; 0 outside the p protocols.
 pub fn grid(n: usize, p: usize, functions: &[u16], node: usize, kind: usize) -> [[u16; 8]; 8]
     ensures { λ r. ⌜ r ≡ gridOf n p (now (functions .entry)) node kind ⌝ }
 {

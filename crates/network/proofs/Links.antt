@@ -10,7 +10,7 @@ use borrow.Author.Tests.{eqb-true, eq-eqb}
 use Rattle.lists.specs.Lists.{every}
 use Rattle.lists.proofs.Tests.{both, and-true, every-at, every-all}
 use Rattle.network.specs.Network.{Network, linkAt, present, okLinks}
-use Rattle.network.specs.Steps.{pairAt, rowAt, halfLinks}
+use Rattle.network.specs.Steps.{goodPair, goodRow, halfLinks}
 
 -- tests that imply each other are equal
 same-test : (a b : Bool) → (a ≡ true → b ≡ true) → (b ≡ true → a ≡ true) → a ≡ b
@@ -41,12 +41,12 @@ beq-same false true e = absurd (false≢true e)
 beq-same false false e = refl
 
 module _ (net : Network) where
-  pair-same : (U W : ℕ) → pairAt (net .n) (net .links) U W ≡ true → present net U W ≡ present net W U
-  unfolding pairAt present
+  pair-same : (U W : ℕ) → goodPair (net .n) (net .links) U W ≡ true → present net U W ≡ present net W U
+  unfolding goodPair present
   pair-same U W e = beq-same (present net U W) (present net W U) e
 
-  same-pair : (U W : ℕ) → present net U W ≡ present net W U → pairAt (net .n) (net .links) U W ≡ true
-  unfolding pairAt present
+  same-pair : (U W : ℕ) → present net U W ≡ present net W U → goodPair (net .n) (net .links) U W ≡ true
+  unfolding goodPair present
   same-pair U W e = same-beq (present net U W) (present net W U) e
 
   -- what the test of all links says of each pair of nodes
@@ -66,19 +66,19 @@ module _ (net : Network) where
   links-same e U W u w = one-way-none (present net U W) (present net W U) (one-way e U W u w) (one-way e W U w u)
 
   -- what the half of it says
-  row-at : halfLinks (net .n) (net .links) ≡ true → (U : ℕ) → U < net .n → rowAt (net .n) (net .links) U ≡ true
+  row-at : halfLinks (net .n) (net .links) ≡ true → (U : ℕ) → U < net .n → goodRow (net .n) (net .links) U ≡ true
   unfolding halfLinks
-  row-at e U u = every-at (net .n) (λ X. rowAt (net .n) (net .links) X) e U u
+  row-at e U u = every-at (net .n) (λ X. goodRow (net .n) (net .links) X) e U u
 
   half-none : halfLinks (net .n) (net .links) ≡ true → (U : ℕ) → U < net .n → eqb (linkAt (net .n) (net .links) U U) 0 ≡ true
-  unfolding rowAt
-  half-none e U u = both (eqb (linkAt (net .n) (net .links) U U) 0) (every U (λ W. pairAt (net .n) (net .links) U W)) (row-at e U u) .0
+  unfolding goodRow
+  half-none e U u = both (eqb (linkAt (net .n) (net .links) U U) 0) (every U (λ W. goodPair (net .n) (net .links) U W)) (row-at e U u) .0
 
   half-pair : halfLinks (net .n) (net .links) ≡ true → (U W : ℕ) → U < net .n → W < U → present net U W ≡ present net W U
-  unfolding rowAt
+  unfolding goodRow
   half-pair e U W u w =
       pair-same U W
-      (every-at U (λ X. pairAt (net .n) (net .links) U X) (both (eqb (linkAt (net .n) (net .links) U U) 0) (every U (λ X. pairAt (net .n) (net .links) U X)) (row-at e U u) .1) W w)
+      (every-at U (λ X. goodPair (net .n) (net .links) U X) (both (eqb (linkAt (net .n) (net .links) U U) 0) (every U (λ X. goodPair (net .n) (net .links) U X)) (row-at e U u) .1) W w)
 
   half-same : halfLinks (net .n) (net .links) ≡ true → (U W : ℕ) → U < net .n → W < net .n → present net U W ≡ present net W U
   half-same e U W u w = by-cases (decLt W U)
@@ -86,7 +86,7 @@ module _ (net : Network) where
       (λ b. by-cases (decLt U W) (λ d. sym (half-pair e W U w d)) (λ d. let q : U ≡ W = omega arith in ap₂ (present net) q (sym q)))
 
   pub half-is-all : halfLinks (net .n) (net .links) ≡ okLinks net
-  unfolding halfLinks rowAt okLinks
+  unfolding halfLinks goodRow okLinks
   half-is-all = same-test (halfLinks (net .n) (net .links)) (okLinks net)
       (λ e. every-all (net .n) _ (λ U u. and-true _ _ (half-none e U u)
       (every-all (net .n) _ (λ W w. no-one-way (present net U W) (present net W U) (half-same e U W u w)))))

@@ -12,7 +12,7 @@ use Rattle.lists.proofs.Tests.{and-true, every-all, every-not}
 use Rattle.bits.specs.Bits.{wordOf}
 use Rattle.bits.proofs.Masks.{wordOf-step, wordOf-skip}
 use Rattle.network.specs.Network.{linkAt, neighboursAt}
-use Rattle.network.specs.Steps.{withLink, pairAt, rowAt}
+use Rattle.network.specs.Steps.{withLink, goodPair, goodRow}
 use Rattle.network.proofs.Entries.{node-many, link-from-none}
 
 -- ---- neighbours
@@ -37,20 +37,20 @@ one-more n links U W word next few e told =
 
 -- ---- a row of links
 pub pair-told : (n : ℕ) (links : List ℕ) (U W x y : ℕ) → x ≡ linkAt n links U W → y ≡ linkAt n links W U
-    → Bool·beq (ltb 0 x) (ltb 0 y) ≡ pairAt n links U W
-unfolding pairAt
+    → Bool·beq (ltb 0 x) (ltb 0 y) ≡ goodPair n links U W
+unfolding goodPair
 pair-told n links U W x y there back = ap₂ (λ (v w : ℕ). Bool·beq (ltb 0 v) (ltb 0 w)) there back
 
 module _ (n : ℕ) (links : List ℕ) (U : ℕ) where
-  pub row-loop : 0 < linkAt n links U U → rowAt n links U ≡ false
-  unfolding rowAt
+  pub row-loop : 0 < linkAt n links U U → goodRow n links U ≡ false
+  unfolding goodRow
   row-loop some = simp (ne-eqb (linkAt n links U U) 0 (λ (z : linkAt n links U U ≡ 0). omega arith))
 
-  pub row-one-way : (W : ℕ) → W < U → pairAt n links U W ≡ false → rowAt n links U ≡ false
-  unfolding rowAt
-  row-one-way W w e = rw (every-not U (λ X. pairAt n links U X) W w e, and-false (eqb (linkAt n links U U) 0))
+  pub row-one-way : (W : ℕ) → W < U → goodPair n links U W ≡ false → goodRow n links U ≡ false
+  unfolding goodRow
+  row-one-way W w e = rw (every-not U (λ X. goodPair n links U X) W w e, and-false (eqb (linkAt n links U U) 0))
 
-  pub row-good : linkAt n links U U ≤ 0 → ((W : ℕ) → W < U → pairAt n links U W ≡ true) → rowAt n links U ≡ true
-  unfolding rowAt
+  pub row-good : linkAt n links U U ≤ 0 → ((W : ℕ) → W < U → goodPair n links U W ≡ true) → goodRow n links U ≡ true
+  unfolding goodRow
   row-good none all =
-      and-true (eqb (linkAt n links U U) 0) (every U (λ X. pairAt n links U X)) (eq-eqb (linkAt n links U U) 0 (omega arith)) (every-all U (λ X. pairAt n links U X) all)
+      and-true (eqb (linkAt n links U U) 0) (every U (λ X. goodPair n links U X)) (eq-eqb (linkAt n links U U) 0 (omega arith)) (every-all U (λ X. goodPair n links U X) all)

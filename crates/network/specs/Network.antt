@@ -50,13 +50,13 @@ neighboursAt n links U = wordOf n (λ W. ltb 0 (linkAt n links U W))
 abbrev pub neighbours : Network → ℕ → ℕ
 neighbours net U = neighboursAt (net .n) (net .links) U
 
--- Refusal 1 is given but where this holds: "n, p, h or n x S out of range, or a network slice of the wrong length"
+-- Where this fails refusal 1 is given: "n, p, h or n x S out of range, or a network slice of the wrong length"
 unfoldable pub okSizes : Network → Bool
 okSizes net =
     leb 1 (net .n) && (leb (net .n) 32 && (okSize (net .p) (net .h) && (leb (net .n * stacks net) 16384
     && (eqb (length (net .links)) (net .n * net .n) && eqb (length (net .functions)) (net .n * (3 * (net .p * net .p)))))))
 
--- Refusal 2 is given but where this holds: "diagonal not 0, or a one-way link"
+-- Where this fails refusal 2 is given: "diagonal not 0, or a one-way link"
 unfoldable pub okLinks : Network → Bool
 okLinks net = every (net .n) (λ U. eqb (link net U U) 0 && every (net .n) (λ W. not (present net U W && not (present net W U))))
 

@@ -12,13 +12,13 @@ unfoldable pub withLink : ℕ → List ℕ → ℕ → ℕ → ℕ → ℕ
 withLink n links U W w = cond (ltb 0 (linkAt n links U W)) (withOne w W) w
 
 -- there is a link both ways, or none
-unfoldable pub pairAt : ℕ → List ℕ → ℕ → ℕ → Bool
-pairAt n links U W = Bool·beq (ltb 0 (linkAt n links U W)) (ltb 0 (linkAt n links W U))
+unfoldable pub goodPair : ℕ → List ℕ → ℕ → ℕ → Bool
+goodPair n links U W = Bool·beq (ltb 0 (linkAt n links U W)) (ltb 0 (linkAt n links W U))
 
 -- no link from U to itself, and both ways or none to each node before U
-unfoldable pub rowAt : ℕ → List ℕ → ℕ → Bool
-rowAt n links U = eqb (linkAt n links U U) 0 && every U (λ W. pairAt n links U W)
+unfoldable pub goodRow : ℕ → List ℕ → ℕ → Bool
+goodRow n links U = eqb (linkAt n links U U) 0 && every U (λ W. goodPair n links U W)
 
 -- the links, each pair looked at once
 unfoldable pub halfLinks : ℕ → List ℕ → Bool
-halfLinks n links = every n (λ U. rowAt n links U)
+halfLinks n links = every n (λ U. goodRow n links U)

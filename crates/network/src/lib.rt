@@ -4,7 +4,7 @@ ghost use Prim.Native.Nat.{_*_, _≤_, _<_};
 ghost use lib.ListN.{length, getD};
 ghost use Rattle.network.specs.Network.{networkOf, linkAt, neighboursAt};
 ghost use Rattle.network.specs.Answers.{checkedOf};
-ghost use Rattle.network.specs.Steps.{withLink, rowAt, halfLinks};
+ghost use Rattle.network.specs.Steps.{withLink, goodRow, halfLinks};
 
 // How many stacks a valid network has, or the first refusal that applies.
 pub enum Checked {
@@ -69,10 +69,10 @@ fn link_in(n: usize, links: &[u16], u: usize, w: usize) -> u16
     links[u * n + w]
 }
 
-// No link from u to itself, and a link both ways or none to each node before it.
+// Whether u has no link to itself, and to each node before it a link both ways or none.
 fn good_row(n: usize, links: &[u16], u: usize) -> bool
     requires { ⌜ (n ≤ 32) × (length (now links) ≡ n * n) × (u < n) ⌝ }
-    ensures { λ r. ⌜ r ≡ rowAt n (now (links .entry)) u ⌝ }
+    ensures { λ r. ⌜ r ≡ goodRow n (now (links .entry)) u ⌝ }
 {
     if 0 < link_in(n, links, u, u) {
         return false;
@@ -87,7 +87,7 @@ fn good_row(n: usize, links: &[u16], u: usize) -> bool
     true
 }
 
-// Each pair of nodes is looked at once, from the later of the two.
+// Whether no node has a link to itself and every link goes both ways. Each pair is looked at once, from the later node.
 fn good_links(n: usize, links: &[u16]) -> bool
     requires { ⌜ (n ≤ 32) × (length (now links) ≡ n * n) ⌝ }
     ensures { λ r. ⌜ r ≡ halfLinks n (now (links .entry)) ⌝ }

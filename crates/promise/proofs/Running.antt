@@ -17,7 +17,7 @@ use Rattle.network.specs.Network.{Network, stacks, present}
 use Rattle.network.proofs.Laws.{valid, present-nodes}
 use Rattle.table.specs.Table.{Table, ceiling, rowsAll, place, nodeAt, destinationAt, numberAt, vertex, delivered, offersTaken}
 use Rattle.table.specs.Answers.{okMessageIn, waitsIn, okSenderIn, stepRefusalIn, refusal, stepRefusal, deliverRefusal, deliverTable}
-use Rattle.table.specs.Run.{RunOutcome, after, ends, turn, steps, runOf}
+use Rattle.table.specs.Run.{RunOutcome, oneMore, ends, turn, steps, runOf}
 use Rattle.table.proofs.Rows.{Stack, Row, is-row, of-place, vertex-node, vertex-below}
 use Rattle.bridge.specs.Bridge.{graphOf, stateOf}
 use Rattle.bridge.proofs.States.{waiting-inside}
@@ -52,7 +52,7 @@ module _ (net : Network) (ok : Network16 net) where
         N = numberAt net i
 
         go : (b : Bool) → eqb (stepRefusal net s Q U D N) 0 ≡ b
-            → Later net t (cond b (after (offersTaken net s Q U D N) (rest (delivered net s Q U D N))) (ends (stepRefusal net s Q U D N) s) .table)
+            → Later net t (cond b (oneMore (offersTaken net s Q U D N) (rest (delivered net s Q U D N))) (ends (stepRefusal net s Q U D N) s) .table)
         go true z = on _ (subst (Later net t) (through s Q U D N (reached-later net r l) (eqb-true (stepRefusal net s Q U D N) 0 z)) (delivery Q U D N l))
         go false z = l
 

@@ -9,7 +9,7 @@ use Rattle.words.specs.declared.Found.{Found}
 use Rattle.network.specs.Network.{Network}
 use Rattle.table.specs.Table.{Table, nodeAt, destinationAt, numberAt, delivered, offersTaken}
 use Rattle.table.specs.Answers.{stepRefusal}
-use Rattle.table.specs.Run.{RunOutcome, after, ends, turn, steps}
+use Rattle.table.specs.Run.{RunOutcome, oneMore, ends, turn, steps}
 use Rattle.table.specs.declared.Delivered.{Delivered}
 use Rattle.step.specs.InNetwork.{stepTable}
 use Rattle.run.specs.Turns.{turnOf, turnAt, tableAt, turnAnswer, turnTable, continued}
@@ -32,16 +32,16 @@ module _ (net : Network) (t : Table) (rest : Table → RunOutcome) where
     changed = delivered net t (nodeAt net i) U (destinationAt net i) (numberAt net i)
 
     step-offers : (b : Bool) (o : ℕ) → turnOf (cond b (Delivered.Rows offers) (Delivered.Refused refused)) ≡ Turn.Offers o
-        → cond b (after offers (rest changed)) (ends refused t) ≡ after o (rest (cond b changed t))
-    step-offers true o d = let q : offers ≡ o = cc in ap (λ (x : ℕ). after x (rest changed)) q
+        → cond b (oneMore offers (rest changed)) (ends refused t) ≡ oneMore o (rest (cond b changed t))
+    step-offers true o d = let q : offers ≡ o = cc in ap (λ (x : ℕ). oneMore x (rest changed)) q
     step-offers false o d = absurd (let z : _≡_ {A = ℕ} 0 1 = cc in omega arith)
 
     step-ends : (b : Bool) (r : ℕ) → turnOf (cond b (Delivered.Rows offers) (Delivered.Refused refused)) ≡ Turn.Ends r
-        → (cond b (after offers (rest changed)) (ends refused t) ≡ ends r t) × (cond b changed t ≡ t)
+        → (cond b (oneMore offers (rest changed)) (ends refused t) ≡ ends r t) × (cond b changed t ≡ t)
     step-ends true r d = absurd (let z : _≡_ {A = ℕ} 0 1 = cc in omega arith)
     step-ends false r d = let q : refused ≡ r = cc in (ap (λ (x : ℕ). ends x t) q, refl)
 
-  offers-at : (f : Found) (o : ℕ) → turnAt net t f ≡ Turn.Offers o → turn net rest t f ≡ after o (rest (tableAt net t f))
+  offers-at : (f : Found) (o : ℕ) → turnAt net t f ≡ Turn.Offers o → turn net rest t f ≡ oneMore o (rest (tableAt net t f))
   unfolding stepTable
   offers-at Found.Nowhere o e = absurd (let z : _≡_ {A = ℕ} 0 1 = cc in omega arith)
   offers-at (Found.At i U) o e = step-offers i U (eqb (refused i U) 0) o e

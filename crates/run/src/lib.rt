@@ -9,7 +9,7 @@ mod turns;
 use network::Checked;
 use table::Ran;
 use table::ready::ready;
-use turns::runs;
+use turns::take_turns;
 
 // Delivers the first waiting message, again and again, until none waits, a delivery is refused, or `limit` are done.
 pub fn run(
@@ -39,7 +39,7 @@ pub fn run(
         way.len(),
         waiting.len(),
     ) {
-        Checked::Stacks(stacks) => runs(
+        Checked::Stacks(stacks) => take_turns(
             n,
             p,
             h,

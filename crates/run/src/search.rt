@@ -1,4 +1,4 @@
-// The first message that waits, as table's search finds it, by flags of the blocks of rows that may hold one.
+// The first message that waits, the one that the nested loops of crate waiting find, by flags of the blocks of rows that may hold one.
 ghost use mathlib.Core.Path.{_≡_};
 ghost use Prim.Native.Nat.{_+_, _*_, _≤_, _<_};
 ghost use lib.ListN.{length};

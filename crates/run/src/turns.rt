@@ -68,7 +68,8 @@ fn all_grids(n: usize, p: usize, functions: &[u16], kind: usize) -> [[[u16; 8]; 
     grids
 }
 
-// First waiting and then deliver, once. The flags say which blocks of rows may hold a message.
+// First waiting and then deliver, once. The flags say which blocks of rows may hold a message. The contract holds for every network with these links
+// of which the arrays hold the neighbours and the grids: the slice of functions itself is not handed over.
 fn take_turn(
     n: usize,
     p: usize,
@@ -135,8 +136,8 @@ fn all_flags(n: usize) -> u32
     word
 }
 
-// Turns until quiet, until one is refused, or until `limit` are done.
-pub(crate) fn runs(
+// Turns until quiet, until one is refused, or until `limit` are done. (No code reads h: the contracts speak of the network, of which it is a part.)
+pub(crate) fn take_turns(
     n: usize,
     p: usize,
     h: usize,

@@ -30,15 +30,15 @@ readyOf net costs ways waits =
     cond (eqb (refusalBy net costs ways waits) 0) (Checked.Stacks (stacks net)) (Checked.Refused (refusalBy net costs ways waits))
 
 -- ---- deliver's refusals once the network and the table are found right, with n nodes and s stacks
--- refusal 4: "node not below n, .. stack number 0 or above S"
+-- refusal 4, "node not below n, .. stack number 0 or above S", is given where this fails
 unfoldable pub okMessageIn : ℕ → ℕ → ℕ → ℕ → ℕ → ℕ → Bool
 okMessageIn n s Q U D N = ltb Q n && (ltb U n && (ltb D n && oneTo s N))
 
--- refusal 5: "the waiting bit is not set"
+-- refusal 5, "the waiting bit is not set", is given where this fails
 unfoldable pub waitsIn : ℕ → ℕ → Table → ℕ → ℕ → ℕ → ℕ → Bool
 waitsIn n s t Q U D N = has (getD (t .waiting) (placeIn n s Q D N) 0) U
 
--- refusal 7: "sender's cost above the ceiling, or no link U to V"; the link back costs `back`, 0 where there is none
+-- refusal 7, "sender's cost above the ceiling, or no link U to V", is given where this fails; the link back costs `back`, 0 where there is none
 unfoldable pub okSenderIn : ℕ → ℕ → ℕ → Table → ℕ → ℕ → ℕ → Bool
 okSenderIn n s back t Q D N = leb (costIn n s t Q D N) ceiling && ltb 0 back
 
@@ -54,6 +54,7 @@ abbrev pub tableBy : ℕ → Table → Table → Table
 tableBy refusal after before = cond (eqb refusal 0) after before
 
 module _ (net : Network) (t : Table) where
+  -- refusals 1 to 3 of this network and this table; 0 where none applies
   unfoldable pub refusal : ℕ
   refusal = refusalBy net (length (t .cost)) (length (t .way)) (length (t .waiting))
 
@@ -77,7 +78,7 @@ module _ (net : Network) (t : Table) where
   firstAnswer = cond (eqb refusal 0) (firstOf (firstIn (t .waiting))) (First.Refused refusal)
 
   module _ (Q U D N : ℕ) where
-    -- of this network refusals 4, 5 and 7
+    -- the tests of refusals 4, 5 and 7 in this network, and the first that applies
     abbrev pub okMessage : Bool
     okMessage = okMessageIn (net .n) (stacks net) Q U D N
 

@@ -25,8 +25,8 @@ pub record Runs (o : RunOutcome) (answer : Ran) (after : Table) : Type 0 where
   pub table : after ≡ o .table
 
 -- one delivery more in front of a run
-abbrev pub after : ℕ → RunOutcome → RunOutcome
-after offers o = record { done = suc (o .done); offers = offers + o .offers; refused = o .refused; table = o .table }
+abbrev pub oneMore : ℕ → RunOutcome → RunOutcome
+oneMore offers o = record { done = suc (o .done); offers = offers + o .offers; refused = o .refused; table = o .table }
 
 -- a run that ends here
 abbrev pub ends : ℕ → Table → RunOutcome
@@ -37,13 +37,14 @@ module _ (net : Network) where
   -- the count of deliveries it made, keeps those, and the refused one changes nothing".
   abbrev pub delivering : (Table → RunOutcome) → Table → ℕ → ℕ → ℕ → ℕ → RunOutcome
   delivering rest t Q U D N =
-      cond (eqb (stepRefusal net t Q U D N) 0) (after (offersTaken net t Q U D N) (rest (delivered net t Q U D N))) (ends (stepRefusal net t Q U D N) t)
+      cond (eqb (stepRefusal net t Q U D N) 0) (oneMore (offersTaken net t Q U D N) (rest (delivered net t Q U D N))) (ends (stepRefusal net t Q U D N) t)
 
   -- one turn at what the search found
   abbrev pub turn : (Table → RunOutcome) → Table → Found → RunOutcome
   turn rest t Found.Nowhere = ends 0 t
   turn rest t (Found.At i U) = delivering rest t (nodeAt net i) U (destinationAt net i) (numberAt net i)
 
+  -- so many turns
   abbrev pub steps : ℕ → Table → RunOutcome
   steps zero t = ends 0 t
   steps (suc k) t = turn (steps k) t (firstIn (t .waiting))

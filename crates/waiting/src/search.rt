@@ -5,7 +5,7 @@ ghost use lib.ListN.{length};
 ghost use Rattle.words.specs.Words.{firstIn};
 use words::Found;
 
-// Nodes, rows and bits, left at the first bit that is set.
+// Nodes, the `rows` rows of each, and bits, left at the first bit that is set.
 pub(crate) fn search(nodes: usize, rows: usize, waiting: &[u32]) -> Found
     requires { ⌜ (length (now waiting) ≡ nodes * rows) × (length (now waiting) ≤ 524288) ⌝ }
     ensures { λ r. ⌜ r ≡ firstIn (now (waiting .entry)) ⌝ }

@@ -6,12 +6,12 @@ use mathlib.Core.Bool.{true}
 use borrow.Author.Count.{below-more}
 use borrow.Author.Tests.{not-true, not-false}
 use Rattle.lists.proofs.Tests.{every-all, every-not}
-use Rattle.network.specs.Steps.{rowAt, halfLinks}
+use Rattle.network.specs.Steps.{goodRow, halfLinks}
 use Rattle.network.proofs.good_links.Statement.{statement}
 use Rattle.network.proofs.good_links.Tie as tie
 
 abbrev Inv-loop : tie.InvT-loop
-Inv-loop n links u₀ u = (u ≤ n) × ((k : ℕ) → k < u → rowAt n links k ≡ true)
+Inv-loop n links u₀ u = (u ≤ n) × ((k : ℕ) → k < u → goodRow n links k ≡ true)
 
 abbrev μ-loop : tie.MeasureT-loop
 μ-loop n links u₀ u = n - u

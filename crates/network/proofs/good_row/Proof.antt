@@ -5,13 +5,13 @@ use mathlib.Core.Path.{_≡_, sym, _∙_}
 use mathlib.Core.Bool.{true}
 use borrow.Author.Count.{below-more}
 use borrow.Author.Tests.{not-true, not-false}
-use Rattle.network.specs.Steps.{pairAt}
+use Rattle.network.specs.Steps.{goodPair}
 use Rattle.network.proofs.Rows.{pair-told, row-loop, row-one-way, row-good}
 use Rattle.network.proofs.good_row.Statement.{statement}
 use Rattle.network.proofs.good_row.Tie as tie
 
 abbrev Inv-loop : tie.InvT-loop
-Inv-loop n links u w₀ w = (w ≤ u) × ((k : ℕ) → k < w → pairAt n links u k ≡ true)
+Inv-loop n links u w₀ w = (w ≤ u) × ((k : ℕ) → k < w → goodPair n links u k ≡ true)
 
 abbrev μ-loop : tie.MeasureT-loop
 μ-loop n links u w₀ w = u - w

@@ -24,23 +24,23 @@ ready-requires c κs = search needs
 enum-known-stacks : tie.Need-enum-known-stacks
 enum-known-stacks c = search needs
 
-runs-requires : tie.Need-runs-requires
-runs-requires c κs = let s = c .before .before .before .before .before .before .before .before .before .before .before .before in prepared (net s) (tab s) (c .before .before .before .before .stacks .given .0 .0) (right (c .before .before .before .before))
+take-turns-requires : tie.Need-take-turns-requires
+take-turns-requires c κs = let s = c .before .before .before .before .before .before .before .before .before .before .before .before in prepared (net s) (tab s) (c .before .before .before .before .stacks .given .0 .0) (right (c .before .before .before .before))
 
 enum-known-refusal : tie.Need-enum-known-refusal
 enum-known-refusal c = search needs
 
 same-length : tie.Need-same-length
-same-length c = c .before .before .before .before .before .before .runs .kept .1 .1 .1 .1 .1 .1 .0
+same-length c = c .before .before .before .before .before .before .take-turns .kept .1 .1 .1 .1 .1 .1 .0
 
 same-length-2 : tie.Need-same-length-2
-same-length-2 c = c .before .before .before .before .before .before .runs .kept .1 .1 .1 .1 .1 .1 .1 .0
+same-length-2 c = c .before .before .before .before .before .before .take-turns .kept .1 .1 .1 .1 .1 .1 .1 .0
 
 same-length-3 : tie.Need-same-length-3
-same-length-3 c = c .before .before .before .before .before .before .runs .kept .1 .1 .1 .1 .1 .1 .1 .1 .0
+same-length-3 c = c .before .before .before .before .before .before .take-turns .kept .1 .1 .1 .1 .1 .1 .1 .1 .0
 
 returns : tie.Need-returns
-returns c = let s = c .before .before .before .before .before .before .before .before .before .before .before .before .before .before .before .before .before .before .before in run-begun (net s) (s .args .limit) (tab s) _ (c .before .before .before .before .before .before .before .before .before .before .before .stacks .given .0 .0) (c .before .before .before .before .before .before .runs .result) (right (c .before .before .before .before .before .before .before .before .before .before .before)) (c .before .before .before .before .before .before .runs .ensures)
+returns c = let s = c .before .before .before .before .before .before .before .before .before .before .before .before .before .before .before .before .before .before .before in run-begun (net s) (s .args .limit) (tab s) _ (c .before .before .before .before .before .before .before .before .before .before .before .stacks .given .0 .0) (c .before .before .before .before .before .before .take-turns .result) (right (c .before .before .before .before .before .before .before .before .before .before .before)) (c .before .before .before .before .before .before .take-turns .ensures)
 
 returns-2 : tie.Need-returns-2
 returns-2 c =
@@ -54,7 +54,7 @@ run-spec =
     (tie.spec
     ready-requires
     enum-known-stacks
-    runs-requires
+    take-turns-requires
     enum-known-refusal
     same-length
     same-length-2

@@ -1,4 +1,4 @@
--- `run::turns::runs` meets its contract: each turn is a turn of the run, and the flags stay right.
+-- `run::turns::take_turns` meets its contract: each turn is a turn of the run, and the flags stay right.
 use Prim.Native.Nat.{_+_, _-_, _≤_}
 use mathlib.Core.Path.{refl, sym, _∙_}
 use denote.Ref.{now}
@@ -10,8 +10,8 @@ use Rattle.table.specs.Table.{Table, tableOf}
 use Rattle.run.specs.Turns.{Turned}
 use Rattle.run.proofs.Turning.{countable}
 use Rattle.run.proofs.Keeping.{Keeps, keeps-first, keeps-on, still-prepared, ran-ends, ran-out, flags-set}
-use Rattle.run.proofs.turns.runs.Statement.{statement}
-use Rattle.run.proofs.turns.runs.Tie as tie
+use Rattle.run.proofs.turns.take_turns.Statement.{statement}
+use Rattle.run.proofs.turns.take_turns.Tie as tie
 
 abbrev Inv-loop : tie.InvT-loop
 Inv-loop n p h stacks links functions cost₀ way₀ waiting₀ limit neighbours converts wraps unwraps flags₀ done₀ offers₀ cost way waiting flags done offers =
@@ -144,8 +144,8 @@ returns-2 c =
     let a = s .args in
     ran-out (net s) (a .stacks) (a .limit) (tab s) (c .before .loop .done) (c .before .loop .offers) (found (c .before)) (c .before .loop .flags) (c .loop-test .left) (c .before .loop .inv)
 
-pub runs-spec : {M : Type 1} → statement M
-runs-spec =
+pub take-turns-spec : {M : Type 1} → statement M
+take-turns-spec =
     tie.close
     (tie.spec
     Inv-loop
