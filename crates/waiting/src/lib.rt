@@ -29,7 +29,7 @@ pub fn count(
         r ≡ countAnswer (networkOf n p h (now (links .entry)) (now (functions .entry))) (tableOf (now (cost .entry)) (now (way .entry)) (now (waiting .entry)))
         ⌝ }
 {
-    let Checked::Refused(refusal) = ready(
+    match ready(
         n,
         p,
         h,
@@ -38,10 +38,10 @@ pub fn count(
         cost.len(),
         way.len(),
         waiting.len(),
-    ) else {
-        return Counted::Messages(words::ones_in(waiting));
-    };
-    Counted::Refused(refusal)
+    ) {
+        Checked::Stacks(_) => Counted::Messages(words::ones_in(waiting)),
+        Checked::Refused(refusal) => Counted::Refused(refusal),
+    }
 }
 
 // The first message that waits, by node, then row, then lowest bit.
@@ -75,10 +75,8 @@ pub fn first_waiting(
                 return First::Quiet;
             };
             let pair = at / stacks;
-            return First::Message(pair / n, pair % n, at % stacks + 1, bit);
+            First::Message(pair / n, pair % n, at % stacks + 1, bit)
         }
-        Checked::Refused(refusal) => {
-            return First::Refused(refusal);
-        }
+        Checked::Refused(refusal) => First::Refused(refusal),
     }
 }

@@ -14,14 +14,14 @@ use Rattle.waiting.proofs.count.Tie as tie
 ready-requires : tie.Need-ready-requires
 ready-requires c κs = search needs
 
-enum-known-refusal : tie.Need-enum-known-refusal
-enum-known-refusal c = search needs
-
 enum-told : tie.Need-enum-told
 enum-told c = search needs
 
 ones-in-requires : tie.Need-ones-in-requires
 ones-in-requires c κs = search needs
+
+enum-known-refusal : tie.Need-enum-known-refusal
+enum-known-refusal c = search needs
 
 returns : tie.Need-returns
 returns c =
@@ -39,4 +39,4 @@ returns-2 c =
 pub count-spec : {M : Type 1} → statement M
 count-spec =
     tie.close
-    (tie.spec ready-requires enum-known-refusal enum-told ones-in-requires returns returns-2)
+    (tie.spec ready-requires enum-told ones-in-requires enum-known-refusal returns returns-2)

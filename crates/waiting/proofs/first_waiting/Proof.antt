@@ -39,23 +39,23 @@ returns c = first-quiet _ _ _ (prepared (c .before .before .before)) (sym (c .be
 div-pair : tie.Need-div-pair
 div-pair c = divides _ _ _ (prepared (c .before .before .before .before)) .some
 
-div-t19 : tie.Need-div-t19
-div-t19 c = divides _ _ _ (prepared (c .before .before .before .before)) .nodes
-
-rem-t20 : tie.Need-rem-t20
-rem-t20 c = divides _ _ _ (prepared (c .before .before .before .before)) .nodes
+div-t20 : tie.Need-div-t20
+div-t20 c = divides _ _ _ (prepared (c .before .before .before .before)) .nodes
 
 rem-t21 : tie.Need-rem-t21
-rem-t21 c = divides _ _ _ (prepared (c .before .before .before .before)) .some
+rem-t21 c = divides _ _ _ (prepared (c .before .before .before .before)) .nodes
 
-add-t22 : tie.Need-add-t22
-add-t22 c = omega (arith, mod-lt (c .before .at .given .0 .0) (divides _ _ _ (prepared (c .before .before .before .before)) .some), divides _ _ _ (prepared (c .before .before .before .before)))
+rem-t22 : tie.Need-rem-t22
+rem-t22 c = divides _ _ _ (prepared (c .before .before .before .before)) .some
 
-returns-2 : tie.Need-returns-2
-returns-2 c = first-message _ _ _ (prepared (c .before .before .before .before)) (c .before .at .given .0 .0) (c .before .at .given .0 .1 .0) (sym (c .before .before .before .search .ensures) ∙ c .before .at .given .1)
+add-t23 : tie.Need-add-t23
+add-t23 c = omega (arith, mod-lt (c .before .at .given .0 .0) (divides _ _ _ (prepared (c .before .before .before .before)) .some), divides _ _ _ (prepared (c .before .before .before .before)))
 
 enum-known-refusal : tie.Need-enum-known-refusal
 enum-known-refusal c = search needs
+
+returns-2 : tie.Need-returns-2
+returns-2 c = first-message _ _ _ (prepared (c .before .before .before .before)) (c .before .at .given .0 .0) (c .before .at .given .0 .1 .0) (sym (c .before .before .before .search .ensures) ∙ c .before .at .given .1)
 
 returns-3 : tie.Need-returns-3
 returns-3 c =
@@ -75,10 +75,10 @@ first-waiting-spec =
     enum-told
     returns
     div-pair
-    div-t19
-    rem-t20
+    div-t20
     rem-t21
-    add-t22
-    returns-2
+    rem-t22
+    add-t23
     enum-known-refusal
+    returns-2
     returns-3)
