@@ -53,13 +53,13 @@ fn grid_row(n: usize, p: usize, functions: &[u16], node: usize, kind: usize, a: 
 pub fn grid(n: usize, p: usize, functions: &[u16], node: usize, kind: usize) -> [[u16; 8]; 8]
     ensures { λ r. ⌜ r ≡ gridOf n p (now (functions .entry)) node kind ⌝ }
 {
-    let mut table = [[0u16; 8]; 8];
+    let mut rows = [[0u16; 8]; 8];
     let mut a = 0;
     while a < 8 {
-        table[a] = grid_row(n, p, functions, node, kind, a);
+        rows[a] = grid_row(n, p, functions, node, kind, a);
         a += 1;
     }
-    table
+    rows
 }
 
 // Whether a node accepts protocol x as a destination: it converts x, wraps x, or unwraps something from x.

@@ -4,7 +4,7 @@ ghost use Rattle.network.specs.Network.{networkOf};
 ghost use Rattle.table.specs.Answers.{readyOf};
 use network::Checked;
 
-// Refusals 1, 2 and 3; how many stacks there are where none applies.
+// Refusals 1, 2 and 3, the last by the slices' lengths `costs`, `ways` and `waits`; how many stacks there are where none applies.
 pub fn ready(
     n: usize,
     p: usize,

@@ -11,11 +11,11 @@ use Rattle.gateways.proofs.grid.Statement.{statement}
 use Rattle.gateways.proofs.grid.Tie as tie
 
 abbrev Inv-loop : tie.InvT-loop
-Inv-loop n p functions node kind table₀ a₀ table a =
-    (a ≤ 8) × (length table ≡ 8) × ((i : ℕ) → i < a → getD table i [] ≡ tabulate 8 (λ b. wordAt n p functions node kind i b))
+Inv-loop n p functions node kind rows₀ a₀ rows a =
+    (a ≤ 8) × (length rows ≡ 8) × ((i : ℕ) → i < a → getD rows i [] ≡ tabulate 8 (λ b. wordAt n p functions node kind i b))
 
 abbrev μ-loop : tie.MeasureT-loop
-μ-loop n p functions node kind table₀ a₀ table a = 8 - a
+μ-loop n p functions node kind rows₀ a₀ rows a = 8 - a
 
 loop-holds : tie.Need-loop-holds Inv-loop μ-loop
 loop-holds c = (omega arith, refl, λ i low. absurd (omega arith))
@@ -23,11 +23,11 @@ loop-holds c = (omega arith, refl, λ i low. absurd (omega arith))
 grid-row-requires : tie.Need-grid-row-requires Inv-loop μ-loop
 grid-row-requires c κs = tt
 
-mul-table : tie.Need-mul-table Inv-loop μ-loop
-mul-table c = omega arith
+mul-rows : tie.Need-mul-rows Inv-loop μ-loop
+mul-rows c = omega arith
 
-array-set-from-table : tie.Need-array-set-from-table Inv-loop μ-loop
-array-set-from-table c = omega arith
+array-set-from-rows : tie.Need-array-set-from-rows Inv-loop μ-loop
+array-set-from-rows c = omega arith
 
 add-a : tie.Need-add-a Inv-loop μ-loop
 add-a c = omega arith
@@ -41,14 +41,14 @@ loop-again c =
     let l = c .before .before .loop in (
       omega arith,
       simp length-set (omega arith),
-      set-more (λ (i : ℕ) (row : List ℕ). row ≡ tabulate 8 (λ b. wordAt (a .n) (a .p) (a .functions .now) (a .node) (a .kind) i b)) [] (l .table) (l .a) (c .grid-row .result)
+      set-more (λ (i : ℕ) (row : List ℕ). row ≡ tabulate 8 (λ b. wordAt (a .n) (a .p) (a .functions .now) (a .node) (a .kind) i b)) [] (l .rows) (l .a) (c .grid-row .result)
           (omega arith) (l .inv .2) (c .grid-row .ensures),
     )
 
 returns : tie.Need-returns Inv-loop μ-loop
 returns c =
     let l = c .before .loop in
-    is-tabulate [] (l .table) 8 _ (l .inv .1) (λ i low. l .inv .2 i (omega arith))
+    is-tabulate [] (l .rows) 8 _ (l .inv .1) (λ i low. l .inv .2 i (omega arith))
 
 pub grid-spec : {M : Type 1} → statement M
 grid-spec =
@@ -58,8 +58,8 @@ grid-spec =
     μ-loop
     loop-holds
     grid-row-requires
-    mul-table
-    array-set-from-table
+    mul-rows
+    array-set-from-rows
     add-a
     loop-less
     loop-again
