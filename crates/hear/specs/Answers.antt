@@ -47,7 +47,7 @@ okHearing p most sender destination number costs ways waiting =
 abbrev pub ceiling : ℕ
 ceiling = 2147303427
 
--- refusal 4 but where that holds, then 7 where the cost is above the ceiling
+-- refusal 4 where that fails, then 7 where the cost is above the ceiling
 abbrev pub refusedBy : ℕ → ℕ → ℕ → ℕ → ℕ → ℕ → ℕ → ℕ → ℕ → ℕ
 refusedBy p most sender destination number cost costs ways waiting =
     unless (okHearing p most sender destination number costs ways waiting) 4 (unless (leb cost ceiling) 7 0)

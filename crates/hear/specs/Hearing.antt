@@ -43,7 +43,7 @@ module _ (g : Gateway) (m : Message) where
   unfoldable pub leadsBy : ℕ → ℕ → Bool
   leadsBy n f = ltb 0 (g .words f) && isNumber (m .number) (movedOf (g .p) (g .most) f n)
 
-  -- the function that does; 192 where none does. ("No two functions of U lead one heard stack to the same H": the law `one-function` of crate functions.)
+  -- the function that does; 192 where none does. ("No two functions of U lead one heard stack to the same H": the law `one-function` of proofs/Sources.antt.)
   unfoldable pub leader : ℕ → ℕ
   leader n = firstBelow 192 (leadsBy n)
 

@@ -24,7 +24,7 @@ struct Offer {
     way: u16,
 }
 
-// The candidates in turn, by their functions' numbers: a convert of each protocol, the wrap, an unwrap from each protocol.
+// Candidate i of the 2p + 1, by their functions' numbers: a convert of each protocol, the wrap, an unwrap from each protocol.
 fn candidate_of(p: usize, number: usize, top: usize, rest: usize, i: usize) -> Candidate
     requires { ⌜ Parted p number top rest i ⌝ }
     ensures { λ r. ⌜ r ≡ candidateOf p number i ⌝ }
@@ -62,7 +62,8 @@ fn candidate_of(p: usize, number: usize, top: usize, rest: usize, i: usize) -> C
     }
 }
 
-// What a candidate with this word offers; "no row" where the gateway can't or the stack is none.
+// What a candidate with this word offers; cost "no row", which no row takes, where the gateway can't or there is no such stack within the
+// height bound.
 fn offer_of(
     most: usize,
     sender: usize,
@@ -78,8 +79,8 @@ fn offer_of(
     if !((0 < word) & (1 <= c.number) & (c.number <= most)) {
         return Offer {
             place: 0,
-            cost: 4294967295,
-            way: 65535,
+            cost: 4294967295, // no row
+            way: 65535, // no way
         };
     }
     let price = word as u32 - 1;
@@ -116,7 +117,7 @@ fn refusal_of(
     if !(((destination + 1) * most <= costs) & (ways == costs) & (waiting == costs)) {
         return 4;
     }
-    if 2147303427 < cost {
+    if 2147303427 < cost { // the ceiling
         return 7;
     }
     0

@@ -10,8 +10,8 @@ use Rattle.table.specs.Table.{Table, deliveredIn, offersIn}
 use Rattle.table.specs.Answers.{stepRefusalIn, answerBy, tableBy}
 use Rattle.table.specs.declared.Delivered.{Delivered}
 
--- Refusal 3 but where this holds, for every size or length with which the rows cannot be counted: n nodes, p protocols and s stacks within
--- their bounds, and three slices of n x n x s rows.
+-- Where this fails refusal 3 is given, for every size or length with which the rows cannot be counted: n nodes, p protocols and s stacks
+-- within their bounds, and three slices of n x n x s rows.
 unfoldable pub okRows : ℕ → ℕ → ℕ → ℕ → ℕ → ℕ → Bool
 okRows n p s costs ways waits =
     leb 1 p && (leb p 8 && (leb n 32 && (leb s 16384

@@ -16,6 +16,7 @@ enum Told {
     Refused(u32),
 }
 
+// Whether n, p and `stacks` are in range and each slice has n x n x `stacks` rows.
 fn good_sizes(n: usize, p: usize, stacks: usize, costs: usize, ways: usize, waits: usize) -> bool
     ensures { λ r. ⌜ r ≡ okRows n p stacks costs ways waits ⌝ }
 {
@@ -26,6 +27,7 @@ fn good_sizes(n: usize, p: usize, stacks: usize, costs: usize, ways: usize, wait
     (costs == rows) & (ways == rows) & (waits == rows)
 }
 
+// Whether the message's numbers are in range.
 fn good_numbers(
     n: usize,
     stacks: usize,
@@ -47,7 +49,7 @@ fn read_cost(rows: &[u32], at: usize) -> u32
     rows[at]
 }
 
-// The tests, which only read.
+// Where the sender's row stands and what it costs, or the first of refusals 3, 4, 5 and 7. It only reads.
 fn read_row(
     n: usize,
     p: usize,
@@ -78,7 +80,7 @@ fn read_row(
         return Told::Refused(5);
     }
     let told = read_cost(&cost[start..end], at);
-    if 2147303427 < told {
+    if 2147303427 < told { // the ceiling
         return Told::Refused(7);
     }
     if link == 0 {
@@ -87,7 +89,7 @@ fn read_row(
     Told::Row(place, told)
 }
 
-// The receiver's answer is the delivery's.
+// The receiver's answer is the delivery's. (`hear` refuses nothing here: `read_row` has made its tests: proofs/Hearing.antt.)
 fn answer(heard: Heard) -> Delivered
     ensures { λ r. ⌜ r ≡ answerIn heard ⌝ }
 {

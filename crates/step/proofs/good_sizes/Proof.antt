@@ -1,4 +1,4 @@
--- `step::good_sizes` meets its contract: its tests are those of `okSizes`.
+-- `step::good_sizes` meets its contract: its tests are those of `okRows`.
 use mathlib.Core.Bool.{true, false}
 use borrow.Author.Tests.{not-true, not-false}
 use Rattle.step.proofs.Tests.{sizes-by, rows-fit}
