@@ -28,7 +28,7 @@ use Rattle.table.specs.Run.{Runs, runOf}
 use Rattle.table.specs.declared.Counted.{Counted}
 use Rattle.table.specs.declared.First.{First}
 use Rattle.table.specs.declared.Delivered.{Delivered}
-use Rattle.step.specs.Step.{Steps}
+use Rattle.step.specs.Step.{Stepped}
 use Rattle.packet.specs.Packet.{packetOf}
 use Rattle.packet.specs.declared.Packet.{Packet}
 use Rattle.forward.specs.Answers.{lookOf, lookupOf}
@@ -135,7 +135,7 @@ hear g m rows x y u v p q = (
 )
 
 -- ---- step
-pub step : (n : ℕ) (g : Gateway) (link : ℕ) (t : Table) (Q U D N : ℕ) → OneBoth (Steps n g link t Q U D N)
+pub step : (n : ℕ) (g : Gateway) (link : ℕ) (t : Table) (Q U D N : ℕ) → OneBoth (Stepped n g link t Q U D N)
 step n g link t Q U D N x y u v p q = (p .answers ∙ sym (q .answers), p .table ∙ sym (q .table))
 
 -- ---- table

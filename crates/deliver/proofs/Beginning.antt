@@ -12,7 +12,7 @@ use Rattle.table.specs.Table.{Table}
 use Rattle.table.specs.Answers.{refusal, stepRefusal, deliverRefusal, deliverAnswer, deliverTable}
 use Rattle.table.specs.declared.Delivered.{Delivered}
 use Rattle.table.proofs.Begins.{Ready, sized-so, begun, stopped}
-use Rattle.step.specs.Step.{Steps}
+use Rattle.step.specs.Step.{Stepped}
 use Rattle.step.specs.InNetwork.{Equipped, stepTable}
 use Rattle.step.proofs.Network.{step-delivers}
 
@@ -20,7 +20,7 @@ module _ (net : Network) (t : Table) (Q U D N : ℕ) where
   -- nothing is refused before the step
   pub delivers : (s back near : ℕ) (convert wrap unwrap : List (List ℕ)) (answer : Delivered) (after : Table)
       → Ready net t s → Equipped net U near convert wrap unwrap → back ≡ link net U Q
-      → Steps (net .n) (gatewayOf (net .p) s near convert wrap unwrap) back t Q U D N answer after
+      → Stepped (net .n) (gatewayOf (net .p) s near convert wrap unwrap) back t Q U D N answer after
       → (answer ≡ deliverAnswer net t Q U D N) × (after ≡ deliverTable net t Q U D N)
   unfolding deliverRefusal deliverTable stepTable
   delivers s back near convert wrap unwrap answer after w own l x =

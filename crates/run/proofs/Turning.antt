@@ -21,7 +21,7 @@ use Rattle.hear.specs.Answers.{gatewayOf}
 use Rattle.table.specs.Table.{Table, nodeAt, destinationAt, numberAt, delivered, offersTaken}
 use Rattle.table.specs.Answers.{stepRefusal, deliveredRows}
 use Rattle.table.specs.declared.Delivered.{Delivered}
-use Rattle.step.specs.Step.{Steps}
+use Rattle.step.specs.Step.{Stepped}
 use Rattle.step.specs.InNetwork.{stepAnswer, stepTable}
 use Rattle.step.proofs.Network.{step-delivers}
 use Rattle.run.specs.Flags.{Flagged}
@@ -94,7 +94,7 @@ module _ (net : Network) (t : Table) (i U : ℕ) (found : firstIn (t .waiting) �
     -- as the code has it, with the s stacks that it was handed
     abbrev Law : ℕ → Type 0
     Law s = Prepared net s t → Flagged (net .n) s flags (t .waiting) → back ≡ link net U (i / s / net .n)
-        → Steps (net .n) (gatewayOf (net .p) s (getD near U 0) (getD converts U []) (getD wraps U []) (getD unwraps U [])) back t (i / s / net .n) U (i / s % net .n) (i % s + 1) answer after
+        → Stepped (net .n) (gatewayOf (net .p) s (getD near U 0) (getD converts U []) (getD wraps U []) (getD unwraps U [])) back t (i / s / net .n) U (i / s % net .n) (i % s + 1) answer after
         → flags′ ≡ flagsAfter flags U (i / s % net .n) (deliveredRows answer) → Turned net s t (turnOf answer) after flags′
 
     law : Law (stacks net)
@@ -103,7 +103,7 @@ module _ (net : Network) (t : Table) (i U : ℕ) (found : firstIn (t .waiting) �
         turned w answer after flags′ f (d .0) (d .1) e
 
     pub turned-step : (s : ℕ) (turn : Turn) → turn ≡ turnOf answer → Prepared net s t → Flagged (net .n) s flags (t .waiting) → back ≡ link net U (i / s / net .n)
-        → Steps (net .n) (gatewayOf (net .p) s (getD near U 0) (getD converts U []) (getD wraps U []) (getD unwraps U [])) back t (i / s / net .n) U (i / s % net .n) (i % s + 1) answer after
+        → Stepped (net .n) (gatewayOf (net .p) s (getD near U 0) (getD converts U []) (getD wraps U []) (getD unwraps U [])) back t (i / s / net .n) U (i / s % net .n) (i % s + 1) answer after
         → flags′ ≡ flagsAfter flags U (i / s % net .n) (deliveredRows answer) → Turned net s t turn after flags′
     turned-step s turn same w f l x e = subst (λ (y : Turn). Turned net s t y after flags′) (sym same) (subst Law (sym (w .stacks-are)) law w f l x e)
 

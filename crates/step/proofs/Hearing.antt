@@ -15,8 +15,8 @@ use Rattle.hear.specs.declared.Heard.{Heard}
 use Rattle.table.specs.Table.{Table, tableOf, ceiling, placeIn, rowsIn, withRowsIn, clearedAt, clearedIn, messageIn, offersIn}
 use Rattle.table.specs.declared.Delivered.{Delivered}
 use Rattle.table.proofs.Rows.{part-long}
-use Rattle.step.specs.Step.{tableAfter, Steps}
-use Rattle.step.specs.Steps.{toldOf, answerIn}
+use Rattle.step.specs.Step.{tableAfter, Stepped}
+use Rattle.step.specs.Steps.{toldOf, asDelivered}
 use Rattle.step.specs.declared.Told.{Told}
 use Rattle.step.proofs.Tells.{Passed, stopped}
 
@@ -52,7 +52,7 @@ module _ (n : ℕ) (g : Gateway) (link : ℕ) (t : Table) (Q U D N : ℕ) where
   rows = rowsIn (n * g .most) U (clearedIn n (g .most) t Q U D N)
 
   -- a refusal of the tests is the answer, and the table stays
-  pub refuses : (k : ℕ) → toldOf n (g .p) (g .most) link t Q U D N ≡ Told.Refused k → Steps n g link t Q U D N (Delivered.Refused k) t
+  pub refuses : (k : ℕ) → toldOf n (g .p) (g .most) link t Q U D N ≡ Told.Refused k → Stepped n g link t Q U D N (Delivered.Refused k) t
   unfolding tableAfter
   refuses k e =
       let r = stopped n (g .p) (g .most) link t Q U D N k e in
@@ -82,13 +82,13 @@ module _ (n : ℕ) (g : Gateway) (link : ℕ) (t : Table) (Q U D N : ℕ) where
       unfolding rowsIn clearedAt
       heard-so = simp (start, long, bit, x .place-is, x .cost-is) at h
 
-      pub delivers : (r : Delivered) → r ≡ answerIn answer → Steps n g link t Q U D N r left
+      pub delivers : (r : Delivered) → r ≡ asDelivered answer → Stepped n g link t Q U D N r left
       unfolding tableAfter withRowsIn clearedAt rowsAfter
       delivers r e =
           let none = nothing-refused in
           let y = heard-so in
           let q : answer ≡ Heard.Rows (offersIn n g link t Q U D N) = y .answers ∙ simp none in
           record {
-            answers = e ∙ ap answerIn q ∙ simp (x .nothing);
+            answers = e ∙ ap asDelivered q ∙ simp (x .nothing);
             table = simp (x .nothing, y .costs, y .ways, y .waiting, none, start, long, bit, x .place-is);
           }

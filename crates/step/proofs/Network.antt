@@ -22,7 +22,7 @@ use Rattle.table.specs.Table.{Table, Sized, rowsAt, gateway, message, cleared, 
 use Rattle.table.specs.Answers.{stepRefusal}
 use Rattle.table.specs.declared.Delivered.{Delivered}
 use Rattle.table.proofs.Deliveries.{goes}
-use Rattle.step.specs.Step.{okRows, tableAfter, Steps}
+use Rattle.step.specs.Step.{okRows, tableAfter, Stepped}
 use Rattle.step.specs.Step as step
 use Rattle.step.specs.InNetwork.{Equipped, stepAnswer, stepTable}
 
@@ -67,7 +67,7 @@ module _ (net : Network) (t : Table) (right : refusalOf net ≡ 0) (sized : Size
     abbrev hears : ℕ → Gateway
     hears s = gatewayOf (net .p) s near convert wrap unwrap
 
-    same : (answer : Delivered) (after : Table) → Steps (net .n) (hears (stacks net)) (link net U Q) t Q U D N answer after
+    same : (answer : Delivered) (after : Table) → Stepped (net .n) (hears (stacks net)) (link net U Q) t Q U D N answer after
         → (answer ≡ stepAnswer net t Q U D N) × (after ≡ stepTable net t Q U D N)
     unfolding tableAfter stepTable delivered offersTaken
     same answer after x = go (eqb (stepRefusal net t Q U D N) 0) refl
@@ -84,6 +84,6 @@ module _ (net : Network) (t : Table) (right : refusalOf net ≡ 0) (sized : Size
 
     -- with s stacks, as `ready` counted them, and the cost of the link back as it was read
     pub step-delivers : (s back : ℕ) (answer : Delivered) (after : Table) → s ≡ stacks net → back ≡ link net U Q
-        → Steps (net .n) (hears s) back t Q U D N answer after → (answer ≡ stepAnswer net t Q U D N) × (after ≡ stepTable net t Q U D N)
+        → Stepped (net .n) (hears s) back t Q U D N answer after → (answer ≡ stepAnswer net t Q U D N) × (after ≡ stepTable net t Q U D N)
     step-delivers s back answer after e l x =
-        same answer after (subst (λ (k : ℕ). Steps (net .n) (hears (stacks net)) k t Q U D N answer after) l (subst (λ (k : ℕ). Steps (net .n) (hears k) back t Q U D N answer after) e x))
+        same answer after (subst (λ (k : ℕ). Stepped (net .n) (hears (stacks net)) k t Q U D N answer after) l (subst (λ (k : ℕ). Stepped (net .n) (hears k) back t Q U D N answer after) e x))

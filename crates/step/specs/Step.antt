@@ -35,6 +35,6 @@ module _ (n : ℕ) (g : Gateway) (back : ℕ) (t : Table) (Q U D N : ℕ) where
   tableAfter = tableBy refusal (deliveredIn n g back t Q U D N) t
 
   -- both
-  pub record Steps (answer : Delivered) (after : Table) : Type 0 where
+  pub record Stepped (answer : Delivered) (after : Table) : Type 0 where
     pub answers : answer ≡ answerOf
     pub table : after ≡ tableAfter

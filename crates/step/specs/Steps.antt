@@ -13,7 +13,7 @@ abbrev pub toldOf : (n p s back : ℕ) (t : Table) (Q U D N : ℕ) → Told
 toldOf n p s back t Q U D N =
     cond (eqb (refusalIn n p s back t Q U D N) 0) (Told.Row (placeIn n s Q D N) (costIn n s t Q D N)) (Told.Refused (refusalIn n p s back t Q U D N))
 
--- answer: the receiver's answer is the delivery's
-abbrev pub answerIn : Heard → Delivered
-answerIn (Heard.Rows taken) = Delivered.Rows taken
-answerIn (Heard.Refused refusal) = Delivered.Refused refusal
+-- as_delivered: the receiver's answer is the delivery's
+abbrev pub asDelivered : Heard → Delivered
+asDelivered (Heard.Rows taken) = Delivered.Rows taken
+asDelivered (Heard.Refused refusal) = Delivered.Refused refusal

@@ -5,8 +5,8 @@ ghost use lib.ListN.{length, getD};
 ghost use Rattle.hear.specs.Answers.{gatewayOf};
 ghost use Rattle.table.specs.Table.{tableOf};
 ghost use Rattle.table.specs.Answers.{okMessageIn};
-ghost use Rattle.step.specs.Step.{okRows, Steps};
-ghost use Rattle.step.specs.Steps.{toldOf, answerIn};
+ghost use Rattle.step.specs.Step.{okRows, Stepped};
+ghost use Rattle.step.specs.Steps.{toldOf, asDelivered};
 use hear::Heard;
 use table::Delivered;
 
@@ -23,8 +23,8 @@ fn good_sizes(n: usize, p: usize, stacks: usize, costs: usize, ways: usize, wait
     if !((1 <= p) & (p <= 8) & (n <= 32) & (stacks <= 16384)) {
         return false;
     }
-    let rows = n * (n * stacks);
-    (costs == rows) & (ways == rows) & (waits == rows)
+    let rows_all = n * (n * stacks);
+    (costs == rows_all) & (ways == rows_all) & (waits == rows_all)
 }
 
 // Whether the message's numbers are in range.
@@ -42,11 +42,11 @@ fn good_numbers(
 }
 
 // A row's cost. It is lent the rows of one gateway, the sender, and no others.
-fn read_cost(rows: &[u32], at: usize) -> u32
-    requires { ⌜ at < length (now rows) ⌝ }
-    ensures { λ r. ⌜ r ≡ getD (now (rows .entry)) at 0 ⌝ }
+fn read_cost(costs: &[u32], at: usize) -> u32
+    requires { ⌜ at < length (now costs) ⌝ }
+    ensures { λ r. ⌜ r ≡ getD (now (costs .entry)) at 0 ⌝ }
 {
-    rows[at]
+    costs[at]
 }
 
 // Where the sender's row stands and what it costs, or the first of refusals 3, 4, 5 and 7. It only reads.
@@ -71,9 +71,9 @@ fn read_row(
     if !good_numbers(n, stacks, sender, receiver, destination, number) {
         return Told::Refused(4);
     }
-    let rows = n * stacks;
-    let start = sender * rows;
-    let end = start + rows;
+    let rows_each = n * stacks;
+    let start = sender * rows_each;
+    let end = start + rows_each;
     let at = destination * stacks + (number - 1);
     let place = start + at;
     if !bits::has(waiting[place], receiver) {
@@ -90,8 +90,8 @@ fn read_row(
 }
 
 // The receiver's answer is the delivery's. (`hear` refuses nothing here: `read_row` has made its tests: proofs/Hearing.antt.)
-fn answer(heard: Heard) -> Delivered
-    ensures { λ r. ⌜ r ≡ answerIn heard ⌝ }
+fn as_delivered(heard: Heard) -> Delivered
+    ensures { λ r. ⌜ r ≡ asDelivered heard ⌝ }
 {
     match heard {
         Heard::Rows(taken) => Delivered::Rows(taken),
@@ -120,7 +120,7 @@ pub fn step(
 ) -> Delivered
     ensures { λ r.
         ⌜
-        Steps n (gatewayOf p stacks neighbours convert wrap unwrap) link (tableOf (now (cost .entry)) (now (way .entry)) (now (waiting .entry))) sender receiver destination number
+        Stepped n (gatewayOf p stacks neighbours convert wrap unwrap) link (tableOf (now (cost .entry)) (now (way .entry)) (now (waiting .entry))) sender receiver destination number
         r (tableOf (now (cost .exit)) (now (way .exit)) (now (waiting .exit)))
         ⌝ }
 {
@@ -140,10 +140,10 @@ pub fn step(
         Told::Row(place, told) => {
             let word = waiting[place];
             waiting[place] = bits::without(word, receiver);
-            let rows = n * stacks;
-            let from = receiver * rows;
-            let to = from + rows;
-            answer(hear::hear(
+            let rows_each = n * stacks;
+            let from = receiver * rows_each;
+            let to = from + rows_each;
+            as_delivered(hear::hear(
                 p,
                 stacks,
                 neighbours,

@@ -11,11 +11,11 @@ returns c = let a = c .before .args in sizes-by (a .n) (a .p) (a .stacks) (a .co
 returns-2 : tie.Need-returns-2
 returns-2 c = let a = c .before .args in sizes-by (a .n) (a .p) (a .stacks) (a .costs) (a .ways) (a .waits) true (not-false _ (c .if1 .left))
 
-mul-rows : tie.Need-mul-rows
-mul-rows c = let a = c .before .args in rows-fit (a .n) (a .p) (a .stacks) (a .costs) (a .ways) (a .waits) (not-false _ (c .if1 .left)) .0
+mul-rows-all : tie.Need-mul-rows-all
+mul-rows-all c = let a = c .before .args in rows-fit (a .n) (a .p) (a .stacks) (a .costs) (a .ways) (a .waits) (not-false _ (c .if1 .left)) .0
 
-mul-rows-2 : tie.Need-mul-rows-2
-mul-rows-2 c = let a = c .before .args in rows-fit (a .n) (a .p) (a .stacks) (a .costs) (a .ways) (a .waits) (not-false _ (c .if1 .left)) .1
+mul-rows-all-2 : tie.Need-mul-rows-all-2
+mul-rows-all-2 c = let a = c .before .args in rows-fit (a .n) (a .p) (a .stacks) (a .costs) (a .ways) (a .waits) (not-false _ (c .if1 .left)) .1
 
 pub good-sizes-spec : {M : Type 1} → statement M
-good-sizes-spec = tie.close (tie.spec returns mul-rows mul-rows-2 returns-2)
+good-sizes-spec = tie.close (tie.spec returns mul-rows-all mul-rows-all-2 returns-2)

@@ -66,8 +66,8 @@ returns-2 c =
     let a = s .args in
     bad-numbers (a .n) (a .p) (a .stacks) (a .link) (tab s) (a .sender) (a .receiver) (a .destination) (a .number) (fit (c .before .before)) (sym (c .before .good-numbers .ensures) ∙ not-true _ (c .if2 .taken))
 
-mul-rows : tie.Need-mul-rows
-mul-rows c = fits-there c .rows
+mul-rows-each : tie.Need-mul-rows-each
+mul-rows-each c = fits-there c .rows
 
 mul-start : tie.Need-mul-start
 mul-start c = fits-there c .start
@@ -147,7 +147,7 @@ read-row-spec =
     returns
     good-numbers-requires
     returns-2
-    mul-rows
+    mul-rows-each
     mul-start
     add-end
     mul-at

@@ -37,7 +37,7 @@ returns c =
     let from = a .receiver * (a .n * a .stacks) in
     delivers (a .n) (gateway s) (a .link) (tab s) (a .sender) (a .receiver) (a .destination) (a .number) (c .before .before .before .before .before .before .before .before .before .before .before .before .before .before .place .given .0 .0) (c .before .before .before .before .before .before .before .before .before .before .before .before .before .before .place .given .0 .1 .0) (pass (c .before .before .before .before .before .before .before .before .before .before .before .before .before .before))
     from (from + a .n * a .stacks - from) (c .before .before .before .before .before .before .before .before .before .before .before .without .result) refl (length-of from (a .n * a .stacks)) (c .before .before .before .before .before .before .before .before .before .before .before .without .ensures) (h .result) (hearing.rowsOf (h .last .1 .1 .1 .1 .1 .1 .1 .1 .1 .1 .1 .0) (h .last .1 .1 .1 .1 .1 .1 .1 .1 .1 .1 .1 .1 .0) (h .last .1 .1 .1 .1 .1 .1 .1 .1 .1 .1 .1 .1 .1 .0)) (h .ensures)
-    (c .answer .result) (c .answer .ensures)
+    (c .as-delivered .result) (c .as-delivered .ensures)
 
 lent : (c : tie.After-place) → let a = c .before .before .before .before .before .before .before .before .before .args in
     Lends (a .n) (a .stacks) (a .receiver) (c .place .given .0 .0) (length (now (a .cost))) (length (now (a .way))) (length (now (a .waiting)))
@@ -67,8 +67,8 @@ mul-waiting c = lent (c .before .before .before) .place-bytes
 slice-write-waiting : tie.Need-slice-write-waiting
 slice-write-waiting c = lent (c .before .before .before) .inside
 
-mul-rows : tie.Need-mul-rows
-mul-rows c = lent (c .before .before .before) .rows
+mul-rows-each : tie.Need-mul-rows-each
+mul-rows-each c = lent (c .before .before .before) .rows
 
 mul-from : tie.Need-mul-from
 mul-from c = lent (c .before .before .before) .from
@@ -115,8 +115,8 @@ part-hear-end-3 c = lent (c .before .before .before .before .before) .waits-end 
 hear-requires : tie.Need-hear-requires
 hear-requires c κs = tt
 
-answer-requires : tie.Need-answer-requires
-answer-requires c κs = tt
+as-delivered-requires : tie.Need-as-delivered-requires
+as-delivered-requires c κs = tt
 
 enum-known-refusal : tie.Need-enum-known-refusal
 enum-known-refusal c = search needs
@@ -165,7 +165,7 @@ step-spec =
     without-requires
     mul-waiting
     slice-write-waiting
-    mul-rows
+    mul-rows-each
     mul-from
     add-to
     mul-hear
@@ -181,7 +181,7 @@ step-spec =
     part-hear-start-3
     part-hear-end-3
     hear-requires
-    answer-requires
+    as-delivered-requires
     enum-known-refusal
     same-length
     same-length-2
