@@ -28,37 +28,37 @@ turnOfFunction p f = turnBy p (kindOf f) (fromOf f) (toOf f)
 
 -- ---- the three kinds
 module _ (p number i : ℕ) where
-  pub converts : i < p → candidateOf p number i ≡ record { kind = 0; from = i; to = top p number; number = p * rest p number + i + 1 }
+  pub converts : i < p → candidateOf p number i ≡ record { kind = 0; a = i; b = top p number; source = p * rest p number + i + 1 }
   unfolding candidateOf
   converts low = simp (lt-ltb i p low)
 
-  pub wraps : p ≤ i → i ≤ p → candidateOf p number i ≡ record { kind = 1; from = top p (rest p number); to = top p number; number = rest p number }
+  pub wraps : p ≤ i → i ≤ p → candidateOf p number i ≡ record { kind = 1; a = top p (rest p number); b = top p number; source = rest p number }
   unfolding candidateOf
   wraps low high = simp (le-ltb i p low, le-ltb p i high)
 
-  pub unwraps : p < i → candidateOf p number i ≡ record { kind = 2; from = top p number; to = i - p - 1; number = p * number + (i - p - 1) + 1 }
+  pub unwraps : p < i → candidateOf p number i ≡ record { kind = 2; a = top p number; b = i - p - 1; source = p * number + (i - p - 1) + 1 }
   unfolding candidateOf
   unwraps high = simp (le-ltb i p (omega arith), lt-ltb p i high)
 
   -- nothing is below the heard top
-  pub wraps-none : p ≤ i → i ≤ p → rest p number < 1 → candidateOf p number i ≡ record { kind = 1; from = 0; to = top p number; number = 0 }
+  pub wraps-none : p ≤ i → i ≤ p → rest p number < 1 → candidateOf p number i ≡ record { kind = 1; a = 0; b = top p number; source = 0 }
   wraps-none low high none =
       let e : rest p number ≡ 0 = omega arith in
-      wraps low high ∙ ap (λ (x : ℕ). record { kind = 1; from = top p x; to = top p number; number = x }) e
-      ∙ ap (λ (x : ℕ). record { kind = 1; from = x; to = top p number; number = 0 }) (zero-mod p)
+      wraps low high ∙ ap (λ (x : ℕ). record { kind = 1; a = top p x; b = top p number; source = x }) e
+      ∙ ap (λ (x : ℕ). record { kind = 1; a = x; b = top p number; source = 0 }) (zero-mod p)
 
 -- the same for whoever has the top and the rest at hand
 module _ (p number tip under i : ℕ) (z : Parted p number tip under i) where
-  pub converts-by : i < p → record { kind = 0; from = i; to = tip; number = p * under + i + 1 } ≡ candidateOf p number i
+  pub converts-by : i < p → record { kind = 0; a = i; b = tip; source = p * under + i + 1 } ≡ candidateOf p number i
   converts-by low = sym (converts p number i low ∙ cc (z .tops, z .rests))
 
-  pub unwraps-by : p < i → record { kind = 2; from = tip; to = i - p - 1; number = p * number + (i - p - 1) + 1 } ≡ candidateOf p number i
+  pub unwraps-by : p < i → record { kind = 2; a = tip; b = i - p - 1; source = p * number + (i - p - 1) + 1 } ≡ candidateOf p number i
   unwraps-by high = sym (unwraps p number i high ∙ cc (z .tops))
 
-  pub wraps-by : p ≤ i → i ≤ p → record { kind = 1; from = top p under; to = tip; number = under } ≡ candidateOf p number i
+  pub wraps-by : p ≤ i → i ≤ p → record { kind = 1; a = top p under; b = tip; source = under } ≡ candidateOf p number i
   wraps-by low high = sym (wraps p number i low high ∙ cc (z .tops, z .rests))
 
-  pub none-by : p ≤ i → i ≤ p → under < 1 → record { kind = 1; from = 0; to = tip; number = 0 } ≡ candidateOf p number i
+  pub none-by : p ≤ i → i ≤ p → under < 1 → record { kind = 1; a = 0; b = tip; source = 0 } ≡ candidateOf p number i
   none-by low high none = sym (wraps-none p number i low high (omega (arith, z .rests)) ∙ cc (z .tops))
 
 -- the stack numbers fit
@@ -74,28 +74,28 @@ past p i h = omega arith
 -- the i-th candidate, by its parts
 pub record Candid (p number i : ℕ) (c : Candidate) : Type 0 where
   pub kinds : c .kind < 3
-  pub froms : c .from < p
-  pub tos : c .to < p
-  pub turn : turnBy p (c .kind) (c .from) (c .to) ≡ i
-  pub source : 1 ≤ c .number → Source p number (c .kind) (c .from) (c .to) (c .number)
+  pub firsts : c .a < p
+  pub seconds : c .b < p
+  pub turn : turnBy p (c .kind) (c .a) (c .b) ≡ i
+  pub sourced : 1 ≤ c .source → Source p number (c .kind) (c .a) (c .b) (c .source)
 
 pub candid : (p number i : ℕ) → 1 ≤ p → i ≤ 2 * p → Candid p number i (candidateOf p number i)
 candid p number i some turn =
     by-cases (decLt i p)
     (λ low. subst (Candid p number i) (sym (converts p number i low))
-    (record { kinds = omega arith; froms = low; tos = tip; turn = refl; source = λ n. (refl, refl) }))
+    (record { kinds = omega arith; firsts = low; seconds = tip; turn = refl; sourced = λ n. (refl, refl) }))
     (λ o. by-cases (decLt p i)
     (λ high. subst (Candid p number i) (sym (unwraps p number i high))
-    (record { kinds = omega arith; froms = tip; tos = omega arith; turn = omega arith; source = λ n. (refl, refl) }))
+    (record { kinds = omega arith; firsts = tip; seconds = omega arith; turn = omega arith; sourced = λ n. (refl, refl) }))
     (λ u. subst (Candid p number i) (sym (wraps p number i (omega arith) (omega arith)))
-    (record { kinds = omega arith; froms = mod-lt (rest p number - 1) some; tos = tip; turn = omega arith; source = λ n. (refl, n, refl, refl) })))
+    (record { kinds = omega arith; firsts = mod-lt (rest p number - 1) some; seconds = tip; turn = omega arith; sourced = λ n. (refl, n, refl, refl) })))
   where
     tip : top p number < p
     tip = mod-lt (number - 1) some
 
 -- what makes the heard stack is the candidate of its turn
 pub in-turn : (p number k a b n : ℕ) → k < 3 → a < p → Source p number k a b n
-    → candidateOf p number (turnBy p k a b) ≡ record { kind = k; from = a; to = b; number = n }
+    → candidateOf p number (turnBy p k a b) ≡ record { kind = k; a = a; b = b; source = n }
 in-turn p number zero a b n low small s = converts p number a small ∙ (cc)
 in-turn p number (suc zero) a b n low small s = wraps p number p (omega arith) (omega arith) ∙ (cc)
 in-turn p number (suc (suc k)) a b n low small s =
@@ -125,10 +125,10 @@ grid-at grids zero low = refl
 grid-at grids (suc zero) low = refl
 grid-at grids (suc (suc k)) low = let e : 2 ≡ suc (suc k) = omega arith in ap (λ (x : ℕ). getD grids x []) e
 
-pub word-at : (grids : List (List (List ℕ))) (c : Candidate) → c .kind < 3 → c .from < 8 → c .to < 8
-    → getD (getD (getD grids (c .kind) []) (c .from) []) (c .to) 0 ≡ wordsOf (getD grids 0 []) (getD grids 1 []) (getD grids 2 []) (candidateFunction c)
-word-at grids c kinds froms tos =
-    let d = digits (c .kind) (c .from) (c .to) froms tos in
+pub word-at : (grids : List (List (List ℕ))) (c : Candidate) → c .kind < 3 → c .a < 8 → c .b < 8
+    → getD (getD (getD grids (c .kind) []) (c .a) []) (c .b) 0 ≡ wordsOf (getD grids 0 []) (getD grids 1 []) (getD grids 2 []) (candidateFunction c)
+word-at grids c kinds firsts seconds =
+    let d = digits (c .kind) (c .a) (c .b) firsts seconds in
     sym (simp (d .kind, d .from, d .to, grid-at grids (c .kind) kinds))
 
 -- ---- the leaders among the candidates
@@ -139,29 +139,29 @@ module _ (g : Gateway) (m : Message) (i : ℕ) (z : Turn (g .p) (m .number) i) (
   parts : Candid (g .p) (m .number) i here
   parts = candid (g .p) (m .number) i (z .some) (z .turn)
 
-  functions : Digits (candidateFunction here) (here .kind) (here .from) (here .to)
-  functions = digits (here .kind) (here .from) (here .to) (omega (arith, parts .froms, z .few)) (omega (arith, parts .tos, z .few))
+  functions : Digits (candidateFunction here) (here .kind) (here .a) (here .b)
+  functions = digits (here .kind) (here .a) (here .b) (omega (arith, parts .firsts, z .few)) (omega (arith, parts .seconds, z .few))
 
   pub function-low : candidateFunction here < 192
-  function-low = omega (arith, parts .kinds, parts .froms, parts .tos, z .few)
+  function-low = omega (arith, parts .kinds, parts .firsts, parts .seconds, z .few)
 
   pub function-turn : turnOfFunction (g .p) (candidateFunction here) ≡ i
   function-turn = simp (functions .kind, functions .from, functions .to) (parts .turn)
 
   -- of the functions that lead to the heard stack only this one is in turn, from its stack alone
-  pub only : (x : ℕ) → leader g m x < 192 → turnOfFunction (g .p) (leader g m x) ≡ i → (leader g m x ≡ candidateFunction here) × (x ≡ here .number)
+  pub only : (x : ℕ) → leader g m x < 192 → turnOfFunction (g .p) (leader g m x) ≡ i → (leader g m x ≡ candidateFunction here) × (x ≡ here .source)
   only x low e =
       let l = led (g .p) (g .most) (leader g m x) x (m .number) (leader-found g m x low .makes) in
       let f = leader g m x in
       let q = sym (in-turn (g .p) (m .number) (kindOf f) (fromOf f) (toOf f) x (omega arith) (l .moves .parts .from) (l .from-source)) ∙ ap (candidateOf (g .p) (m .number)) e in
-      (put-together f ∙ ap candidateFunction q, ap (λ (y : Candidate). y .number) q)
+      (put-together f ∙ ap candidateFunction q, ap (λ (y : Candidate). y .source) q)
 
-  pub leads : 0 < g .words (candidateFunction here) → 1 ≤ here .number → here .number ≤ g .most → leader g m (here .number) ≡ candidateFunction here
+  pub leads : 0 < g .words (candidateFunction here) → 1 ≤ here .source → here .source ≤ g .most → leader g m (here .source) ≡ candidateFunction here
   leads has some low =
-      leader-only g m (here .number) (candidateFunction here) function-low
+      leader-only g m (here .source) (candidateFunction here) function-low
       (record {
         has = has;
-        makes = moved-source (g .p) (g .most) (candidateFunction here) (here .number) (m .number) (z .some) (z .few) bounded function-low
-            (omega (arith, functions .from, parts .froms)) (omega (arith, functions .to, parts .tos)) some low (z .numbered) within
-            (simp (functions .kind, functions .from, functions .to) (parts .source some));
+        makes = moved-source (g .p) (g .most) (candidateFunction here) (here .source) (m .number) (z .some) (z .few) bounded function-low
+            (omega (arith, functions .from, parts .firsts)) (omega (arith, functions .to, parts .seconds)) some low (z .numbered) within
+            (simp (functions .kind, functions .from, functions .to) (parts .sourced some));
       })

@@ -150,19 +150,19 @@ module _ {g : Gateway} {m : Message} {r s : Rows} {i count : ℕ} {o : Offer} (q
 -- ---- the candidate and its offer, as the code has them
 pub record Small (c : Candidate) : Type 0 where
   pub kinds : c .kind < 3
-  pub froms : c .from < 8
-  pub tos : c .to < 8
+  pub firsts : c .a < 8
+  pub seconds : c .b < 8
 
 pub small : (p number i : ℕ) (c : Candidate) → Turn p number i → c ≡ candidateOf p number i → Small c
 small p number i c z is =
     let d = subst (Candid p number i) (sym is) (candid p number i (z .some) (z .turn)) in
-    record { kinds = d .kinds; froms = omega (arith, d .froms, z .few); tos = omega (arith, d .tos, z .few) }
+    record { kinds = d .kinds; firsts = omega (arith, d .firsts, z .few); seconds = omega (arith, d .seconds, z .few) }
 
 pub offered : (p most neighbours : ℕ) (grids : List (List (List ℕ))) (m : Message) (i : ℕ) (c : Candidate) (o : Offer) → Turn p (m .number) i
     → c ≡ candidateOf p (m .number) i
-    → o ≡ offerOf most (m .sender) (m .destination) (m .cost) (m .link) (getD (getD (getD grids (c .kind) []) (c .from) []) (c .to) 0) c
+    → o ≡ offerOf most (m .sender) (m .destination) (m .cost) (m .link) (getD (getD (getD grids (c .kind) []) (c .a) []) (c .b) 0) c
     → o ≡ offerIn (gatewayOf p most neighbours (getD grids 0 []) (getD grids 1 []) (getD grids 2 [])) m i
 offered p most neighbours grids m i c o z is e =
     let d = small p (m .number) i c z is in
-    e ∙ ap (λ (w : ℕ). offerOf most (m .sender) (m .destination) (m .cost) (m .link) w c) (word-at grids c (d .kinds) (d .froms) (d .tos))
+    e ∙ ap (λ (w : ℕ). offerOf most (m .sender) (m .destination) (m .cost) (m .link) w c) (word-at grids c (d .kinds) (d .firsts) (d .seconds))
     ∙ ap (λ (x : Candidate). offerOf most (m .sender) (m .destination) (m .cost) (m .link) (wordsOf (getD grids 0 []) (getD grids 1 []) (getD grids 2 []) (candidateFunction x)) x) is

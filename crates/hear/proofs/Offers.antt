@@ -15,24 +15,24 @@ use Rattle.hear.specs.declared.Candidate.{Candidate}
 module _ (most word : ℕ) (c : Candidate) where
   -- the gateway can, and there is such a row
   abbrev test : Bool
-  test = ltb 0 word && (leb 1 (c .number) && leb (c .number) most)
+  test = ltb 0 word && (leb 1 (c .source) && leb (c .source) most)
 
   abbrev tested : Bool
-  tested = (ltb 0 word && leb 1 (c .number)) && leb (c .number) most
+  tested = (ltb 0 word && leb 1 (c .source)) && leb (c .source) most
 
   same : tested ≡ test
   same = simp and-assoc
 
   pub record Makes : Type 0 where
     pub has : 0 < word
-    pub some : 1 ≤ c .number
-    pub low : c .number ≤ most
+    pub some : 1 ≤ c .source
+    pub low : c .source ≤ most
 
   pub makes : tested ≡ true → Makes
   makes e =
-      let a = both (ltb 0 word) (leb 1 (c .number) && leb (c .number) most) (sym same ∙ e) in
-      let b = both (leb 1 (c .number)) (leb (c .number) most) (a .1) in
-      record { has = ltb-true 0 word (a .0); some = leb-true 1 (c .number) (b .0); low = leb-true (c .number) most (b .1) }
+      let a = both (ltb 0 word) (leb 1 (c .source) && leb (c .source) most) (sym same ∙ e) in
+      let b = both (leb 1 (c .source)) (leb (c .source) most) (a .1) in
+      record { has = ltb-true 0 word (a .0); some = leb-true 1 (c .source) (b .0); low = leb-true (c .source) most (b .1) }
 
   module _ (sender destination cost link : ℕ) where
     pub none : tested ≡ false → record { place = 0; cost = 4294967295; way = 65535 } ≡ offerOf most sender destination cost link word c
@@ -40,26 +40,26 @@ module _ (most word : ℕ) (c : Candidate) where
     none e = simp (sym same ∙ e)
 
     pub made : tested ≡ true
-        → record { place = placeOf most destination (c .number); cost = cost + link + (word - 1); way = 256 * sender + 64 * c .kind + 8 * c .from + c .to }
+        → record { place = placeOf most destination (c .source); cost = cost + link + (word - 1); way = 256 * sender + 64 * c .kind + 8 * c .a + c .b }
         ≡ offerOf most sender destination cost link word c
     unfolding offerOf
     made e =
         simp (sym same ∙ e)
-        (ap (λ (y : ℕ). record { place = placeOf most destination (c .number); cost = cost + link + (word - 1); way = y }) (omega arith))
+        (ap (λ (y : ℕ). record { place = placeOf most destination (c .source); cost = cost + link + (word - 1); way = y }) (omega arith))
 
 -- the numbers on the way to the place, to the cost and to the way
 pub record OfferFits (most sender destination cost link word : ℕ) (c : Candidate) : Type 0 where
   pub rows : Fits w64 (destination * most)
-  pub place : c .number ≤ most → Fits w64 (destination * most + (c .number - 1))
+  pub place : c .source ≤ most → Fits w64 (destination * most + (c .source - 1))
   pub linked : Fits w32 (cost + link)
   pub costs : Fits w32 (cost + link + (word - 1))
   pub sent : Fits w64 (256 * sender)
   pub kind : Fits w64 (64 * c .kind)
   pub kinds : Fits w64 (256 * sender + 64 * c .kind)
-  pub from : Fits w64 (8 * c .from)
-  pub froms : Fits w64 (256 * sender + 64 * c .kind + 8 * c .from)
-  pub tos : Fits w64 (256 * sender + 64 * c .kind + 8 * c .from + c .to)
-  pub way : Fits w16 (256 * sender + 64 * c .kind + 8 * c .from + c .to)
+  pub first : Fits w64 (8 * c .a)
+  pub firsts : Fits w64 (256 * sender + 64 * c .kind + 8 * c .a)
+  pub seconds : Fits w64 (256 * sender + 64 * c .kind + 8 * c .a + c .b)
+  pub way : Fits w16 (256 * sender + 64 * c .kind + 8 * c .a + c .b)
 
 pub offer-fits : (most sender destination cost link word : ℕ) (c : Candidate) → Priced most sender destination cost c → Fits w16 link → Fits w16 word
     → OfferFits most sender destination cost link word c
@@ -73,8 +73,8 @@ offer-fits most sender destination cost link word c q l w =
       sent = omega arith;
       kind = omega arith;
       kinds = omega arith;
-      from = omega arith;
-      froms = omega arith;
-      tos = omega arith;
+      first = omega arith;
+      firsts = omega arith;
+      seconds = omega arith;
       way = omega arith;
     }

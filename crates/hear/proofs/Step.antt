@@ -41,7 +41,7 @@ offerIn g m i = offerOf (g .most) (m .sender) (m .destination) (m .cost) (m .lin
 pub offer-inside : (g : Gateway) (m : Message) (i long : ℕ) → 1 ≤ g .most → (m .destination + 1) * g .most ≤ long → offerIn g m i .place < long
 unfolding offerOf
 offer-inside g m i long some wide =
-    let n = inTurn g m i .number in
+    let n = inTurn g m i .source in
     let f = candidateFunction (inTurn g m i) in
     bool-cases (ltb 0 (g .words f) && (leb 1 n && leb n (g .most)))
     (λ e.
@@ -52,7 +52,7 @@ offer-inside g m i long some wide =
 module _ (g : Gateway) (m : Message) (i : ℕ) (z : Turn (g .p) (m .number) i) (within : m .number ≤ g .most) (bounded : g .most ≤ 16384)
     (r : Rows) (wide : (m .destination + 1) * g .most ≤ length (r .costs)) where
   abbrev n : ℕ
-  n = inTurn g m i .number
+  n = inTurn g m i .source
 
   abbrev f : ℕ
   f = candidateFunction (inTurn g m i)

@@ -12,13 +12,13 @@ use Rattle.hear.specs.declared.Offer.{Offer}
 -- the functions that can make the heard stack, by their numbers: a convert of each protocol, the wrap, an unwrap from each protocol
 unfoldable pub candidateOf : ℕ → ℕ → ℕ → Candidate
 candidateOf p number i =
-    cond (ltb i p) (record { kind = 0; from = i; to = top p number; number = p * rest p number + i + 1 })
-    (cond (ltb p i) (record { kind = 2; from = top p number; to = i - p - 1; number = p * number + (i - p - 1) + 1 })
-    (record { kind = 1; from = top p (rest p number); to = top p number; number = rest p number }))
+    cond (ltb i p) (record { kind = 0; a = i; b = top p number; source = p * rest p number + i + 1 })
+    (cond (ltb p i) (record { kind = 2; a = top p number; b = i - p - 1; source = p * number + (i - p - 1) + 1 })
+    (record { kind = 1; a = top p (rest p number); b = top p number; source = rest p number }))
 
 -- "A function's number is 64 x kind + 8a + b"
 abbrev pub candidateFunction : Candidate → ℕ
-candidateFunction c = 64 * c .kind + 8 * c .from + c .to
+candidateFunction candidate = 64 * candidate .kind + 8 * candidate .a + candidate .b
 
 -- ---- one offer
 -- where the row of a destination and a stack number stands
@@ -27,9 +27,9 @@ placeOf most destination n = destination * most + (n - 1)
 
 -- what a candidate with this word offers to its row; where the gateway can't or there is no such row, what no row takes
 unfoldable pub offerOf : ℕ → ℕ → ℕ → ℕ → ℕ → ℕ → Candidate → Offer
-offerOf most sender destination cost link word c =
-    cond (ltb 0 word && oneTo most (c .number))
-    (record { place = placeOf most destination (c .number); cost = cost + link + (word - 1); way = 256 * sender + candidateFunction c })
+offerOf most sender destination cost link word candidate =
+    cond (ltb 0 word && oneTo most (candidate .source))
+    (record { place = placeOf most destination (candidate .source); cost = cost + link + (word - 1); way = 256 * sender + candidateFunction candidate })
     (record { place = 0; cost = 4294967295; way = 65535 })
 
 -- ---- what the private functions may count on
@@ -48,11 +48,11 @@ pub record Parted (p number tip under i : ℕ) : Type 0 where
   pub rests : under ≡ rest p number
 
 -- numbers small enough for the offer to fit
-pub record Priced (most sender destination cost : ℕ) (c : Candidate) : Type 0 where
+pub record Priced (most sender destination cost : ℕ) (candidate : Candidate) : Type 0 where
   pub bounded : most ≤ 16384
   pub sends : sender < 32
   pub known : destination < 32
   pub priced : cost ≤ ceiling
-  pub kinds : c .kind < 3
-  pub froms : c .from < 8
-  pub tos : c .to < 8
+  pub kinds : candidate .kind < 3
+  pub firsts : candidate .a < 8
+  pub seconds : candidate .b < 8

@@ -9,12 +9,13 @@ pub enum Heard {
     Refused(u32),
 }
 
-// A function that makes the heard stack, by its kind and two protocols, and the number of the stack that it makes it of; 0 where there is none.
+// A function that makes the heard stack, by its kind: convert a to b, wrap a in b or unwrap a from b; and the number of the stack that it
+// makes it of, 0 where there is none.
 struct Candidate {
     kind: usize,
-    from: usize,
-    to: usize,
-    number: usize,
+    a: usize,
+    b: usize,
+    source: usize,
 }
 
 // What a function offers: the place of the row, the cost and the way.
@@ -32,33 +33,33 @@ fn candidate_of(p: usize, number: usize, top: usize, rest: usize, i: usize) -> C
     if i < p {
         return Candidate {
             kind: 0,
-            from: i,
-            to: top,
-            number: p * rest + i + 1,
+            a: i,
+            b: top,
+            source: p * rest + i + 1,
         };
     }
     if p < i {
         let b = i - p - 1;
         return Candidate {
             kind: 2,
-            from: top,
-            to: b,
-            number: p * number + b + 1,
+            a: top,
+            b: b,
+            source: p * number + b + 1,
         };
     }
     if rest < 1 {
         return Candidate {
             kind: 1,
-            from: 0,
-            to: top,
-            number: 0,
+            a: 0,
+            b: top,
+            source: 0,
         };
     }
     Candidate {
         kind: 1,
-        from: (rest - 1) % p,
-        to: top,
-        number: rest,
+        a: (rest - 1) % p,
+        b: top,
+        source: rest,
     }
 }
 
@@ -71,12 +72,12 @@ fn offer_of(
     cost: u32,
     link: u16,
     word: u16,
-    c: Candidate,
+    candidate: Candidate,
 ) -> Offer
-    requires { ⌜ Priced most sender destination cost c ⌝ }
-    ensures { λ r. ⌜ r ≡ offerOf most sender destination cost link word c ⌝ }
+    requires { ⌜ Priced most sender destination cost candidate ⌝ }
+    ensures { λ r. ⌜ r ≡ offerOf most sender destination cost link word candidate ⌝ }
 {
-    if !((0 < word) & (1 <= c.number) & (c.number <= most)) {
+    if !((0 < word) & (1 <= candidate.source) & (candidate.source <= most)) {
         return Offer {
             place: 0,
             cost: 4294967295, // no row
@@ -85,9 +86,9 @@ fn offer_of(
     }
     let price = word as u32 - 1;
     Offer {
-        place: destination * most + (c.number - 1),
+        place: destination * most + (candidate.source - 1),
         cost: cost + link as u32 + price,
-        way: (256 * sender + 64 * c.kind + 8 * c.from + c.to) as u16,
+        way: (256 * sender + 64 * candidate.kind + 8 * candidate.a + candidate.b) as u16,
     }
 }
 
@@ -164,12 +165,12 @@ pub fn hear(
     let mut count: usize = 0;
     let mut i: usize = 0;
     while i < 2 * p + 1 {
-        let c = candidate_of(p, number, top, rest, i);
-        let kind = c.kind;
-        let from = c.from;
-        let to = c.to;
-        let word = grids[kind][from][to];
-        let offer = offer_of(most, sender, destination, cost, link, word, c);
+        let candidate = candidate_of(p, number, top, rest, i);
+        let kind = candidate.kind;
+        let a = candidate.a;
+        let b = candidate.b;
+        let word = grids[kind][a][b];
+        let offer = offer_of(most, sender, destination, cost, link, word, candidate);
         let place = offer.place;
         i += 1;
         if costs[place] <= offer.cost {

@@ -99,10 +99,10 @@ index-1-word : tie.Need-index-1-word Inv-loop μ-loop
 index-1-word c = parts c .kinds
 
 index-2-word : tie.Need-index-2-word Inv-loop μ-loop
-index-2-word c = parts c .froms
+index-2-word c = parts c .firsts
 
 index-3-word : tie.Need-index-3-word Inv-loop μ-loop
-index-3-word c = parts c .tos
+index-3-word c = parts c .seconds
 
 offer-of-requires : tie.Need-offer-of-requires Inv-loop μ-loop
 offer-of-requires c κs =
@@ -114,8 +114,8 @@ offer-of-requires c κs =
       known = h .numbers-good .known;
       priced = h .lengths-good .priced;
       kinds = d .kinds;
-      froms = d .froms;
-      tos = d .tos;
+      firsts = d .firsts;
+      seconds = d .seconds;
     }
 
 add-i : tie.Need-add-i Inv-loop μ-loop

@@ -5,22 +5,22 @@ use Rattle.hear.proofs.offer_of.Statement.{statement}
 use Rattle.hear.proofs.offer_of.Tie as tie
 
 -- what the test says where it lets the candidate through
-passes : (c : tie.Else1) → let a = c .before .before .before .args in Makes (a .most) (a .word) (a .c)
-passes c = let a = c .before .before .before .args in makes (a .most) (a .word) (a .c) (not-false _ (c .if1 .left))
+passes : (c : tie.Else1) → let a = c .before .before .before .args in Makes (a .most) (a .word) (a .candidate)
+passes c = let a = c .before .before .before .args in makes (a .most) (a .word) (a .candidate) (not-false _ (c .if1 .left))
 
 returns : tie.Need-returns
 returns c =
     let a = c .before .before .before .args in
-    none (a .most) (a .word) (a .c) (a .sender) (a .destination) (a .cost) (a .link) (not-true _ (c .if1 .taken))
+    none (a .most) (a .word) (a .candidate) (a .sender) (a .destination) (a .cost) (a .link) (not-true _ (c .if1 .taken))
 
 returns-2 : tie.Need-returns-2
 returns-2 c =
     let passed = c .before .before .before .before in
     let a = passed .before .before .before .args in
-    made (a .most) (a .word) (a .c) (a .sender) (a .destination) (a .cost) (a .link) (not-false _ (passed .if1 .left))
+    made (a .most) (a .word) (a .candidate) (a .sender) (a .destination) (a .cost) (a .link) (not-false _ (passed .if1 .left))
 
 -- no number wraps
-fits : (c : tie.Else1) → let a = c .before .before .before .args in OfferFits (a .most) (a .sender) (a .destination) (a .cost) (a .link) (a .word) (a .c)
+fits : (c : tie.Else1) → let a = c .before .before .before .args in OfferFits (a .most) (a .sender) (a .destination) (a .cost) (a .link) (a .word) (a .candidate)
 fits c = let s = c .before .before .before in offer-fits _ _ _ _ _ _ _ (s .pre) (s .fits .link) (s .fits .word)
 
 sub-price : tie.Need-sub-price
@@ -51,13 +51,13 @@ add-t23 : tie.Need-add-t23
 add-t23 c = fits (c .before .before) .kinds
 
 mul-t24 : tie.Need-mul-t24
-mul-t24 c = fits (c .before .before .before) .from
+mul-t24 c = fits (c .before .before .before) .first
 
 add-t25 : tie.Need-add-t25
-add-t25 c = fits (c .before .before .before) .froms
+add-t25 c = fits (c .before .before .before) .firsts
 
 add-t26 : tie.Need-add-t26
-add-t26 c = fits (c .before .before .before .before) .tos
+add-t26 c = fits (c .before .before .before .before) .seconds
 
 cast-t27 : tie.Need-cast-t27
 cast-t27 c = fits (c .before .before .before .before) .way
