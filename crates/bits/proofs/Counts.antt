@@ -1,17 +1,15 @@
 -- Laws of the count of set bits: its bound, that it is the library's, and what 0 and one bit less count.
 use mathlib.Core.Path.{_≡_, sym, ap, _∙_}
-use mathlib.Core.Bool.{true, false, true≢false}
-use mathlib.Core.Logic.{by-cases}
+use mathlib.Core.Bool.{false}
 use Prim.Native.Nat.{ℕ, zero, suc, _+_, _/_, _%_, _^_, _≤_, _<_}
-use native.Mathlib.Decide.{decLt}
 use native.Mathlib.Omega.{arith}
 use lib.Count.{ones, ones-step}
 use Rattle.lists.specs.Lists.{one, howMany}
 use Rattle.lists.proofs.Tests.{bool-cases}
-use Rattle.lists.proofs.Counts.{howMany-le, howMany-none, howMany-zero, howMany-more}
-use Rattle.bits.specs.Bits.{bit, has, without, onesOf}
+use Rattle.lists.proofs.Counts.{howMany-le, howMany-none, howMany-zero}
+use Rattle.bits.specs.Bits.{bit, has, onesOf}
 use Rattle.bits.proofs.Bits.{bit-zero, bit-suc, half-below}
-use Rattle.bits.proofs.Laws.{one-of-has, zero-of-has, has-zero, high-bit, has-without-here, has-without-there}
+use Rattle.bits.proofs.Laws.{one-of-has, zero-of-has, has-zero}
 
 -- ---- counted from the lowest bit, as the library does
 is-bit : (w v : ℕ) → one (has w v) ≡ bit w v
@@ -43,10 +41,3 @@ ones-zero = howMany-none 32 (has 0) (λ v b. has-zero v)
 pub ones-none : (w : ℕ) → onesOf w ≡ 0 → (v : ℕ) → v < 32 → has w v ≡ false
 unfolding onesOf
 ones-none w e v b = howMany-zero 32 (has w) e v b
-
--- ---- a bit cleared
-pub onesOf-without : (w v : ℕ) → w < 2 ^ 32 → has w v ≡ true → onesOf (without w v) + 1 ≡ onesOf w
-unfolding onesOf
-onesOf-without w v h e = by-cases (decLt v 32)
-    (λ l. omega (arith, howMany-more 32 (has (without w v)) (has w) v l (has-without-here w v) (λ k b ne. has-without-there w v k ne), ap one e))
-    (λ n. absurd (true≢false (sym e ∙ high-bit w v h (omega arith))))

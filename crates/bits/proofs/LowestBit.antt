@@ -10,10 +10,10 @@ use native.Mathlib.Omega.{arith}
 use lib.Count.{trailingZeros, under}
 use lib.Pow.{shr-shr}
 use Rattle.lists.specs.Lists.{firstFrom, firstBelow}
-use Rattle.lists.proofs.Tests.{First, first-below, first-none}
+use Rattle.lists.proofs.Tests.{First, first-below}
 use Rattle.bits.specs.Bits.{bit, has, lowest}
 use Rattle.bits.proofs.Bits.{bit-lt}
-use Rattle.bits.proofs.Laws.{has-of-one, has-of-zero, has-zero, no-bit}
+use Rattle.bits.proofs.Laws.{has-of-one, has-of-zero, no-bit}
 
 -- ---- the search by tests is the count of zeros
 halved : (w v : ℕ) → w / 2 ^ suc v ≡ w / 2 ^ v / 2
@@ -39,10 +39,6 @@ lowest-is-library w = searched 32 0 w ∙ zero-add (trailingZeros 32 (w / 2 ^ 0)
 first : (w : ℕ) → First 0 32 (has w) (lowest w)
 unfolding lowest
 first w = first-below 32 (has w)
-
-pub lowest-zero : lowest 0 ≡ 32
-unfolding lowest
-lowest-zero = first-none 32 (has 0) (λ v b. has-zero v)
 
 pub lowest-first : (w k : ℕ) → k < lowest w → has w k ≡ false
 lowest-first w k h = first w .before k (omega arith) h

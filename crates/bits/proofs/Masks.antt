@@ -8,10 +8,9 @@ use native.Mathlib.Omega.{arith}
 use borrow.Author.Tests.{lt-ltb, le-ltb}
 use lib.Bits.{bitOr, or-shifted-r}
 use lib.Dec.{ltb}
-use lib.Pow.{pow-lt}
 use Rattle.bits.specs.Bits.{has, withAll, withOne, wordOf}
 use Rattle.bits.proofs.Bits.{set-here, set-there}
-use Rattle.bits.proofs.Laws.{has-of-one, has-zero, tests-agree, withAll-fits}
+use Rattle.bits.proofs.Laws.{has-of-one, has-zero, tests-agree}
 
 -- ---- one bit set
 pub withOne-below : (w v : ℕ) → v < 32 → withOne w v ≡ withAll w (2 ^ v)
@@ -33,13 +32,6 @@ has-withOne-there w v k ne = go (decLt v 32)
     go : Dec (v < 32) → has (withOne w v) k ≡ has w k
     go (yes h) = ap (λ (x : ℕ). has x k) (withOne-below w v h) ∙ tests-agree (withAll w (2 ^ v)) w k (set-there w v k ne)
     go (no h) = ap (λ (x : ℕ). has x k) (withOne-above w v (omega (arith, h)))
-
-pub withOne-fits : (w v : ℕ) → w < 2 ^ 32 → withOne w v < 2 ^ 32
-withOne-fits w v l = go (decLt v 32)
-  where
-    go : Dec (v < 32) → withOne w v < 2 ^ 32
-    go (yes h) = rw (withOne-below w v h) (withAll-fits w (2 ^ v) l (pow-lt h))
-    go (no h) = rw (withOne-above w v (omega (arith, h))) l
 
 -- ---- the word of the tests below k
 pub wordOf-fits : (k : ℕ) (f : ℕ → Bool) → wordOf k f < 2 ^ k
