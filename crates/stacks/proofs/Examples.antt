@@ -1,4 +1,4 @@
--- Worked examples, by computation: protocols a = 0 and b = 1. (P1 to P4 of the specification are in crate promise.)
+-- Worked examples, by computation: protocols a = 0 and b = 1. (P1 to P4 of the specification are in crate examples.)
 use mathlib.Core.Path.{_≡_, refl}
 use mathlib.Core.List.{[], _∷_}
 use Rattle.stacks.specs.Stacks.{count, stackOf}

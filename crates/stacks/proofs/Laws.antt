@@ -5,7 +5,7 @@ use mathlib.Core.List.{List}
 use mathlib.Core.Bool.{true}
 use mathlib.Core.Logic.{_↔_}
 use lib.ListN.{length}
-use Rattle.stacks.specs.Stacks.{okSize, okStack, okNumber, below, number, count, height, stackOf}
+use Rattle.stacks.specs.Stacks.{okSize, okStack, okNumber, below, number, count, stackOf}
 use Rattle.stacks.proofs.Tests.{sizes, good, within}
 use Rattle.stacks.proofs.Numbers as numbers
 
@@ -28,10 +28,6 @@ module _ (p h : ℕ) (size : okSize p h ≡ true) where
 
   pub same-number : (s t : List ℕ) → okStack p h s ≡ true → okStack p h t ≡ true → number p s ≡ number p t → s ≡ t
   same-number s t os ot e = sym (stack-of-number s os) ∙ ap (stackOf p h) e ∙ stack-of-number t ot
-
-  -- `height` is how high that stack is.
-  pub height-of-stack : (n : ℕ) → length (stackOf p h n) ≡ height p h n
-  height-of-stack n = numbers.length-stackOf p h n
 
   -- A number is at most S exactly where the height is at most h.
   pub number-high : (s : List ℕ) → below p s ≡ true → (number p s ≤ count p h) ↔ (length s ≤ h)

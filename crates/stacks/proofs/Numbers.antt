@@ -5,7 +5,7 @@ use native.Mathlib.Nat.{mul-suc, mul-comm, mul-le-mul-left, le-trans, div-add-mo
 use native.Mathlib.Numerals.{add-one}
 use native.Mathlib.Omega.{arith}
 use mathlib.Core.Path.{_≡_, refl, sym, ap, _∙_}
-use mathlib.Core.List.{List, [], _∷_, _++_, reverse, reverseAux, reverse-reverse}
+use mathlib.Core.List.{List, [], _∷_, reverse, reverseAux, reverse-reverse}
 use mathlib.Core.Bool.{Bool, true, false, _&&_, and-assoc, and-comm}
 use mathlib.Core.Logic.{_↔_}
 use lib.ListN.{length, length-reverse}
@@ -120,13 +120,6 @@ num-leb p h r ok = go (leb (length r) h) refl
 
 -- of stacks bottom to top
 
-pub numberFrom-append : (p n : ℕ) (s t : List ℕ) → numberFrom p n (s ++ t) ≡ numberFrom p (numberFrom p n s) t
-numberFrom-append p n [] t = refl
-numberFrom-append p n (q ∷ s) t = numberFrom-append p (p * n + q + 1) s t
-
-pub number-snoc : (p : ℕ) (s : List ℕ) (q : ℕ) → number p (s ++ (q ∷ [])) ≡ p * number p s + q + 1
-number-snoc p s q = numberFrom-append p 0 s (q ∷ [])
-
 pub number-leb : (p h : ℕ) (s : List ℕ) → below p s ≡ true → leb (number p s) (count p h) ≡ leb (length s) h
 number-leb p h s ok =
     ap (λ (n : ℕ). leb n (count p h)) (number-num p s)
@@ -146,12 +139,6 @@ stackOf-number p h s ok le =
     ∙ ap (λ (n : ℕ). reverse (tops p h n)) (number-num p s)
     ∙ ap reverse (tops-num p h (reverse s) (below-reverse p s ∙ ok) (omega (arith, length-reverse s)))
     ∙ reverse-reverse s
-
-pub number-injective : (p : ℕ) (s t : List ℕ) → below p s ≡ true → below p t ≡ true → number p s ≡ number p t → s ≡ t
-number-injective p s t os ot e =
-    sym (stackOf-number p (length s + length t) s os (omega arith))
-    ∙ ap (stackOf p (length s + length t)) e
-    ∙ stackOf-number p (length s + length t) t ot (omega arith)
 
 pub below-stackOf : (p h n : ℕ) → 1 ≤ p → below p (stackOf p h n) ≡ true
 below-stackOf p h n some = ap (below p) (stackUnder-tops p h n []) ∙ below-reverse p (tops p h n) ∙ below-tops p h n some
@@ -182,12 +169,6 @@ stackOf-only p h n s ok e =
     let g = good p h s ok in
     sym (stackOf-number p h s (g .small) (g .low)) ∙ ap (stackOf p h) e
 
--- the top, the rest and the height of a number are those of its stack
-pub top-snoc : (p : ℕ) (s : List ℕ) (q : ℕ) → q < p → top p (number p (s ++ (q ∷ []))) ≡ q
-top-snoc p s q small = ap (top p) (number-snoc p s q) ∙ num-top p (number p s) q small
-
-pub rest-snoc : (p : ℕ) (s : List ℕ) (q : ℕ) → q < p → rest p (number p (s ++ (q ∷ []))) ≡ number p s
-rest-snoc p s q small = ap (rest p) (number-snoc p s q) ∙ num-rest p (number p s) q small
-
+-- the height of a number is that of its stack
 pub height-number : (p h : ℕ) (s : List ℕ) → below p s ≡ true → length s ≤ h → height p h (number p s) ≡ length s
 height-number p h s ok le = sym (length-stackOf p h (number p s)) ∙ ap length (stackOf-number p h s ok le)

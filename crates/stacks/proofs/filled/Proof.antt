@@ -1,5 +1,5 @@
 -- `stacks::filled` meets its contract: acc, what is written so far, stands from i to high, and the stack of n under acc is the whole stack.
-use Prim.Native.Nat.{ℕ, _+_, _-_, _%_, _≤_}
+use Prim.Native.Nat.{ℕ, _-_, _%_, _≤_}
 use mathlib.Core.Path.{_≡_, refl, sym, ap, _∙_}
 use mathlib.Core.List.{List, [], _∷_, _++_}
 use lib.ListN.{length, take, drop, set, take-append-drop, length-set}

@@ -8,8 +8,6 @@ use Rattle.stacks.specs.Stacks.{height}
 use Rattle.stacks.proofs.Heights.{height-none, height-turn}
 use Rattle.stacks.proofs.height_of.Statement.{statement}
 use Rattle.stacks.proofs.height_of.Tie as tie
-use Rattle.stacks.proofs.height_of.Reads as reads
-use Rattle.stacks.proofs.height_of.Lts as lts
 
 abbrev Inv-loop : tie.InvT-loop
 Inv-loop p h number n₀ i₀ n i = (i ≤ h) × (i + height p (h - i) n ≡ height p h number)

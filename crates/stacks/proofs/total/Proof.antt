@@ -8,8 +8,6 @@ use Rattle.stacks.specs.Stacks.{count}
 use Rattle.stacks.proofs.Count.{count-suc, count-fits}
 use Rattle.stacks.proofs.total.Statement.{statement}
 use Rattle.stacks.proofs.total.Tie as tie
-use Rattle.stacks.proofs.total.Reads as reads
-use Rattle.stacks.proofs.total.Lts as lts
 
 abbrev Inv-loop : tie.InvT-loop
 Inv-loop p h n₀ i₀ n i = (i ≤ h) × (n ≡ count p i)
