@@ -1,4 +1,4 @@
--- Worked examples, by computation: protocols a = 0 and b = 1. (P12 of the specification is in crate promise.)
+-- Worked examples, by computation: protocols a = 0 and b = 1. (P12 of the specification is in crate examples.)
 use Prim.Native.Nat.{ℕ, _+_, _*_}
 use mathlib.Core.Path.{_≡_, refl}
 use mathlib.Core.List.{[], _∷_}

@@ -1,6 +1,6 @@
 -- THE LAWS of the functions on stacks that the rest of the project cites, over lists bottom to top, and then the same over numbers.
 use Prim.Native.Nat.{ℕ}
-use mathlib.Core.Path.{_≡_, sym, ap, _∙_, subst}
+use mathlib.Core.Path.{_≡_, ap, _∙_, subst}
 use mathlib.Core.List.{List}
 use mathlib.Core.Bool.{true, _&&_}
 use mathlib.Core.Logic.{_↔_}
@@ -78,26 +78,6 @@ leads p h f n m e =
 pub leading : (p h f n m : ℕ) → Leads p h f n m → appliedOf p h f n ≡ Number m
 leading p h f n m l = simp (l .size, l .from, l .by, l .makes) (ap Number (number-of-stack p h (l .size) m (l .to)))
 
--- f leads from n to m exactly where its inverse leads from m to n
-pub leads-back : (p h f n m : ℕ) → Leads p h f n m → Leads p h (inverse f) m n
-leads-back p h f n m l =
-    let os = stack-in-range p h (l .size) n (l .from) in
-    let ot = stack-in-range p h (l .size) m (l .to) in
-    record {
-      size = l .size;
-      from = l .to;
-      by = inverse-ok p f (l .by);
-      to = l .from;
-      makes = inverse-finds p h (l .size) f (stackOf p h n) (stackOf p h m) (l .by) os ot .0 (l .makes);
-    }
-
--- at most one number leads to m by f, and at most one function leads from n to m
-pub leads-from : (p h f n n′ m : ℕ) → Leads p h f n m → Leads p h f n′ m → n ≡ n′
-leads-from p h f n n′ m l l′ =
-    let d = leading p h (inverse f) m n (leads-back p h f n m l) in
-    let d′ = leading p h (inverse f) m n′ (leads-back p h f n′ m l′) in
-    let x : Number n ≡ Number n′ = sym d ∙ d′ in
-    cc
-
+-- at most one function leads from n to m
 pub leads-by : (p h f g n m : ℕ) → Leads p h f n m → Leads p h g n m → f ≡ g
 leads-by p h f g n m l l′ = one-function p h (l .size) f g (stackOf p h n) (stackOf p h m) (l .by) (l′ .by) (l .makes) (l′ .makes)
