@@ -8,7 +8,7 @@ use mathlib.Core.Bool.{Bool, true, false, cond, _&&_, false≢true}
 use lib.ListN.{length}
 use lib.Dec.{leb, ltb, eqb}
 use lib.Pow.{pow-mono}
-use borrow.Author.Tests.{leb-true, eqb-true, lt-ltb, le-ltb, eq-eqb, ne-eqb}
+use borrow.Author.Tests.{leb-true, eqb-true, lt-ltb, le-ltb, eq-eqb}
 use Rattle.lists.proofs.Tests.{both}
 use Rattle.stacks.specs.Stacks.{okSize}
 use Rattle.bits.specs.Bits.{has}
@@ -106,13 +106,6 @@ module _ (net : Network) where
       let a = answer-refused (refusalOf net) (stacks net) r (eqb (refusalOf net) 0) refl e in
       let some : 1 ≤ refusalOf net = by-cases (decLt 0 (refusalOf net)) (λ h. h) (λ h. absurd (false≢true (sym (a .1) ∙ eq-eqb (refusalOf net) 0 (omega arith)))) in
       (a .0, omega (arith, a .0), omega (arith, a .0, refusal-most))
-
-  -- and the other way round
-  pub valid-checked : refusalOf net ≡ 0 → checkedOf net ≡ Checked.Stacks (stacks net)
-  valid-checked e = simp (eq-eqb (refusalOf net) 0 e)
-
-  pub refused-checked : (refusalOf net ≡ 0 → ⊥) → checkedOf net ≡ Checked.Refused (refusalOf net)
-  refused-checked n = simp (ne-eqb (refusalOf net) 0 n)
 
 -- ---- links
 module _ (net : Network) where
