@@ -1,6 +1,6 @@
 -- The model is not empty: a start, a delivery for each message that waits, and from every reachable state a way to a quiet one.
 -- `start` and `act` stand here and not in specs/: no theorem elsewhere rests on them, and `act` needs the decision `takes?`.
-use Prim.Native.Nat.{ℕ, zero, suc, _+_, _≤_, _<_}
+use Prim.Native.Nat.{ℕ, zero, suc, _+_, _<_}
 use mathlib.Core.Path.{_≡_, _∙_}
 use mathlib.Core.Logic.{_⊎_, inl, inr, ⊎-elim, by-cases, ite, if-pos, if-neg}
 use mathlib.Core.Bool.{Bool, true, false, cond, _||_, or-false, or-true}
@@ -8,9 +8,8 @@ use native.Mathlib.Omega.{arith}
 use native.Mathlib.Decide.{decLt}
 use Rattle.lists.proofs.Tests.{bool-cases}
 use Rattle.relax.specs.Graph.{Graph, Lawful, State, noRow, cleared, Fresh, Deliver, Step, deliver, Reach, more, Later, now, after}
-use Rattle.relax.specs.Journeys.{Quiet, Route, measure}
-use Rattle.relax.proofs.Laws.{takes?, reach-later}
-use Rattle.relax.proofs.Optimal.{cheapest}
+use Rattle.relax.specs.Journeys.{Quiet, measure}
+use Rattle.relax.proofs.Laws.{takes?}
 use Rattle.relax.proofs.Ends.{measure-falls, waits, priced-below}
 
 -- a test below n that passes, or none does
@@ -105,9 +104,3 @@ module _ (g : Graph) where
     -- 6. from every reachable state deliveries can lead to a quiet one
     pub settles : {s : State} → Reach g s → (t : State) × Later g s t × Quiet t
     settles {s} r = settles-within (suc (measure size N s)) r (omega arith)
-
-    -- and there no route is cheaper than the cost
-    pub settles-cheapest : {s : State} → Reach g s → (t : State) × Later g s t × ((v k : ℕ) → Route g v k → t .cost v ≤ k)
-    settles-cheapest r =
-        let end = settles r in
-        (end .0, end .1, λ v k p. cheapest g ok (reach-later g r (end .1)) (end .2) p)

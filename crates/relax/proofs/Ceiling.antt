@@ -1,8 +1,8 @@
 -- Every reachable cost is `noRow` or at most `ceilingOf g`. What is kept: v's cost and `dearest` are at most `dearest` for each vertex that costs no more than v.
 -- (A vertex u that takes an offer from x costs more than all that count for x, so it counts as one more.)
 use Prim.Native.Nat.{ℕ, suc, _+_, _-_, _*_, _≤_, _<_, zero-le}
-use mathlib.Core.Path.{_≡_, refl, _∙_}
-use mathlib.Core.Logic.{_≢_, _⊎_, inl, inr, by-cases}
+use mathlib.Core.Path.{refl, _∙_}
+use mathlib.Core.Logic.{_≢_, by-cases}
 use mathlib.Core.Bool.{false}
 use native.Mathlib.Omega.{arith}
 use native.Mathlib.Nat.{le-refl, mul-le-mul-right}
@@ -98,10 +98,6 @@ module _ (g : Graph) (ok : Lawful g) where
   -- 2. every reachable cost is `noRow` or at most `ceilingOf g`
   pub ceiling : {s : State} → Reach g s → (v : ℕ) → s .cost v ≢ noRow → s .cost v ≤ ceilingOf g
   ceiling {s} r v n = bounded-ceiling s (bounded r) v n
-
-  -- the same, as two cases
-  pub ceiling-cases : {s : State} → Reach g s → (v : ℕ) → (s .cost v ≡ noRow) ⊎ (s .cost v ≤ ceilingOf g)
-  ceiling-cases {s} r v = by-cases (ℕ-discrete (s .cost v) noRow) (λ e. inl e) (λ n. inr (ceiling r v n))
 
   -- so no cost is above `noRow`
   pub below-noRow : {s : State} → Reach g s → (v : ℕ) → s .cost v ≤ noRow
