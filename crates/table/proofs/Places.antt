@@ -3,7 +3,7 @@ use mathlib.Core.Path.{_≡_, refl, sym, ap, _∙_}
 use Prim.Native.Nat.{ℕ, _+_, _*_, _/_, _%_, _≤_, _<_}
 use native.Mathlib.Nat.{suc-mul, mul-assoc, mul-comm, add-mul, mul-le-mul-right, mod-lt, div-add-mod', div-lt-iff-lt-mul, div-eq-of-lt-le, div-div-eq-div-mul}
 use native.Mathlib.Omega.{arith}
-use lib.Arith.{digits-lt, digits-div, digits-mod}
+use lib.Arith.{digits-lt}
 
 -- ---- blocks of the size s
 pub block-of : (s b i : ℕ) → b * s ≤ i → i < b * s + s → i / s ≡ b
@@ -32,14 +32,7 @@ module _ (n s u : ℕ) where
     pub block-end : (u * n + d) * s + s ≤ u * (n * s) + n * s
     block-end = omega (arith, block-start, block-fits s d n below)
 
-    -- a row of the block has these two digits
-    pub block-node : (i : ℕ) → (u * n + d) * s ≤ i → i < (u * n + d) * s + s → i / s / n ≡ u
-    block-node i l h = ap (λ (b : ℕ). b / n) (block-of s (u * n + d) i l h) ∙ digits-div u below
-
-    pub block-destination : (i : ℕ) → (u * n + d) * s ≤ i → i < (u * n + d) * s + s → i / s % n ≡ d
-    block-destination i l h = ap (λ (b : ℕ). b % n) (block-of s (u * n + d) i l h) ∙ digits-mod u below
-
-  -- and these two digits tell the block
+  -- the two digits of a row's block tell the block
   pub block-here : (d i : ℕ) → i / s / n ≡ u → i / s % n ≡ d → i / s ≡ u * n + d
   block-here d i e f = omega (arith, sym (div-add-mod' (i / s) n), ap (λ (q : ℕ). q * n) e)
 
