@@ -1,4 +1,4 @@
--- `words::skipped` meets its contract. The invariant: the search from i on has the answer of the search from the start. Assumes nothing.
+-- `words::skipped` meets its contract. The invariant: the search from i on has the answer of the search from the start.
 use mathlib.Core.Path.{_≡_, refl, sym, _∙_}
 use Prim.Native.Nat.{_-_}
 use native.Mathlib.Omega.{arith}
