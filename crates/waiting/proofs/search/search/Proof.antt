@@ -1,4 +1,4 @@
--- `table::search::search` meets its contract. The invariants: nothing is found yet, and the search from here on has the answer of the whole
+-- `waiting::search::search` meets its contract. The invariants: nothing is found yet, and the search from here on has the answer of the whole
 -- search; in a word that is not 0, no bit below `bit` is set.
 use mathlib.Core.Path.{_≡_, refl, sym, _∙_}
 use mathlib.Core.Bool.{false}
