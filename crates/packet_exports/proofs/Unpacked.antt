@@ -1,7 +1,7 @@
 -- Nothing is lost in packing: within the ranges a lookup's answer is read back as it was, so different answers have different numbers.
 use Prim.Native.Nat.{ℕ, _+_, _*_, _/_, _^_}
 use native.Mathlib.Omega.{arith}
-use mathlib.Core.Path.{_≡_, refl, sym, ap, _∙_}
+use mathlib.Core.Path.{_≡_, refl}
 use borrow.Author.Tests.{eq-eqb, ne-eqb}
 use Rattle.forward.specs.declared.Look.{Look}
 use Rattle.packing.specs.Packing.{isRefused, isFound, senderIn, receiverIn, lowIn, numberIn}
@@ -34,13 +34,6 @@ look-back (Look.Forward v g n c) f =
     let m = forward-read v g n c f in
     simp (eq-eqb (isRefused (packForward v g n c)) 0 (m .told), ne-eqb (isFound (packForward v g n c)) 0 (λ e. omega (arith, e, m .found)), m .hops, m .applies, m .numbered, m .priced)
 look-back (Look.Refused r) f = refusal-read r f _ Look.Refused
-
-pub forward-apart : (v f n c v′ f′ n′ c′ : ℕ) → ForwardFits v f n c → ForwardFits v′ f′ n′ c′ → packForward v f n c ≡ packForward v′ f′ n′ c′
-    → (v ≡ v′) × (f ≡ f′) × (n ≡ n′) × (c ≡ c′)
-forward-apart v f n c v′ f′ n′ c′ fits fits′ e =
-    let a = forward-read v f n c fits in
-    let b = forward-read v′ f′ n′ c′ fits′ in
-    (sym (a .hops) ∙ ap senderIn e ∙ b .hops, sym (a .applies) ∙ ap receiverIn e ∙ b .applies, sym (a .numbered) ∙ ap numberIn e ∙ b .numbered, sym (a .priced) ∙ ap lowIn e ∙ b .priced)
 
 pub look-apart : (a b : Look) → LookFits a → LookFits b → packLook a ≡ packLook b → a ≡ b
 look-apart a b f g e = apart packLook unpackLook a b (look-back a f) (look-back b g) e
