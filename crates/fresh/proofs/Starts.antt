@@ -1,5 +1,5 @@
 -- What `fresh` knows and leaves: the filled lists, and at the end the fresh table and its count.
-use Prim.Native.Nat.{ℕ, _+_, _-_, _*_, _/_, _≤_}
+use Prim.Native.Nat.{ℕ, _+_, _*_, _/_, _≤_}
 use native.Mathlib.Omega.{arith}
 use mathlib.Core.Path.{_≡_, refl, sym, ap, _∙_}
 use mathlib.Core.List.{List}
