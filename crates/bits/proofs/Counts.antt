@@ -1,4 +1,4 @@
--- Laws of the count of set bits: its bound, that it is the library's, and what 0 and one bit less count.
+-- Laws of the count of set bits: its bound, that it is the library's, and when it is 0.
 use mathlib.Core.Path.{_≡_, sym, ap, _∙_}
 use mathlib.Core.Bool.{false}
 use Prim.Native.Nat.{ℕ, zero, suc, _+_, _/_, _%_, _^_, _≤_, _<_}
