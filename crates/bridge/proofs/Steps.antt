@@ -16,7 +16,7 @@ use Rattle.bits.proofs.Laws.{has-without-here, has-without-there, has-withAll}
 use Rattle.network.specs.Network.{Network, link, present, neighbours, refusalOf}
 use Rattle.network.proofs.Laws.{valid, has-neighbours}
 use Rattle.table.specs.Table.{Table, rowsEach, place, cleared, delivered, Sized, vertex, vertexNode, vertexNumber}
-use Rattle.table.specs.Answers.{stepRefusal}
+use Rattle.table.specs.Answers.{messageRefusal}
 use Rattle.bridge.specs.Bridge.{weightOf, graphOf, vertexPlace, vertexCost, vertexWaiting, leadsTo, vertexNext, stateOf}
 use Rattle.table.proofs.Rows.{is-vertex, of-vertex, same-row}
 use Rattle.bridge.proofs.Weights.{weight-hop}
@@ -149,7 +149,7 @@ module _ (net : Network) (right : refusalOf net ≡ 0) (t : Table) (sized : Size
     heard = heard-now;
   }
 
-pub delivery-is-a-step : (net : Network) → refusalOf net ≡ 0 → (D : ℕ) (t : Table) (Q U N : ℕ) → Sized net t → stepRefusal net t Q U D N ≡ 0
+pub delivery-is-a-step : (net : Network) → refusalOf net ≡ 0 → (D : ℕ) (t : Table) (Q U N : ℕ) → Sized net t → messageRefusal net t Q U D N ≡ 0
     → Deliver (graphOf net D) (stateOf net D t) (stateOf net D (delivered net t Q U D N)) (vertex net Q N) U
 delivery-is-a-step net right D t Q U N sized e = delivers net right t sized Q U D N (goes net t Q U D N e)
 
@@ -180,6 +180,6 @@ module _ (net : Network) (t : Table) (sized : Sized net t) (Q U E N : ℕ) (go :
         (λ n. let b : rowsEach net ≤ v = omega arith in waiting-outside net D t v W b ∙ sym (waiting-outside net D (delivered net t Q U E N) v W b));
   }
 
-pub delivery-elsewhere : (net : Network) (D : ℕ) → D < net .n → (t : Table) (Q U E N : ℕ) → Sized net t → stepRefusal net t Q U E N ≡ 0 → (D ≡ E → ⊥)
+pub delivery-elsewhere : (net : Network) (D : ℕ) → D < net .n → (t : Table) (Q U E N : ℕ) → Sized net t → messageRefusal net t Q U E N ≡ 0 → (D ≡ E → ⊥)
     → Same (stateOf net D t) (stateOf net D (delivered net t Q U E N))
 delivery-elsewhere net D d t Q U E N sized e other = elsewhere net t sized Q U E N (goes net t Q U E N e) D d other

@@ -12,7 +12,7 @@ use Rattle.network.specs.Network.{Network, present}
 use Rattle.gateways.specs.Gateways.{can, weight}
 use Rattle.hear.specs.Hearing.{Message, leader}
 use Rattle.table.specs.Table.{Table, Sized, vertex, vertexNode, vertexNumber, noRow, rowsEach, place, home, fresh, gateway, delivered}
-use Rattle.table.specs.Answers.{stepRefusal, deliverRefusal, deliverTable}
+use Rattle.table.specs.Answers.{messageRefusal, deliverRefusal, deliverTable}
 
 -- a message about a stack number, of which only that number matters
 abbrev pub about : ℕ → Message
@@ -86,14 +86,14 @@ module _ (net : Network) where
     pub fresh-sized : Sized net (fresh net)
     pub fresh-is-fresh : Fresh (graphOf D) (stateOf D (fresh net))
     -- a delivery about D is a delivery, and one about another destination changes nothing
-    pub delivery-sized : (t : Table) (Q U E N : ℕ) → Sized net t → stepRefusal net t Q U E N ≡ 0 → Sized net (delivered net t Q U E N)
-    pub delivery-is-a-step : (t : Table) (Q U N : ℕ) → Sized net t → stepRefusal net t Q U D N ≡ 0
+    pub delivery-sized : (t : Table) (Q U E N : ℕ) → Sized net t → messageRefusal net t Q U E N ≡ 0 → Sized net (delivered net t Q U E N)
+    pub delivery-is-a-step : (t : Table) (Q U N : ℕ) → Sized net t → messageRefusal net t Q U D N ≡ 0
         → Deliver (graphOf D) (stateOf D t) (stateOf D (delivered net t Q U D N)) (vertex net Q N) U
-    pub delivery-elsewhere : (t : Table) (Q U E N : ℕ) → Sized net t → stepRefusal net t Q U E N ≡ 0 → (D ≡ E → ⊥)
+    pub delivery-elsewhere : (t : Table) (Q U E N : ℕ) → Sized net t → messageRefusal net t Q U E N ≡ 0 → (D ≡ E → ⊥)
         → Same (stateOf D t) (stateOf D (delivered net t Q U E N))
     -- a call of deliver that is not refused is that delivery, and a refused call is none: it leaves the table
     pub call-delivers : (t : Table) (Q U E N : ℕ) → deliverRefusal net t Q U E N ≡ 0
-        → (stepRefusal net t Q U E N ≡ 0) × (deliverTable net t Q U E N ≡ delivered net t Q U E N)
+        → (messageRefusal net t Q U E N ≡ 0) × (deliverTable net t Q U E N ≡ delivered net t Q U E N)
     pub refused-is-none : (t : Table) (Q U E N : ℕ) → (deliverRefusal net t Q U E N ≡ 0 → ⊥) → deliverTable net t Q U E N ≡ t
     -- the hops are what the specification calls hops
     pub hop-function : (u v : ℕ) → 0 < weightOf u v → (f : ℕ) × HopBy u v f

@@ -20,7 +20,7 @@ use Rattle.gateways.proofs.Laws.{weight-most}
 use Rattle.hear.specs.Hearing.{offer}
 use Rattle.hear.proofs.Laws.{leader-leads, leader-is}
 use Rattle.table.specs.Table.{Table, Sized, noRow, place, gateway, message, cleared, delivered}
-use Rattle.table.specs.Answers.{stepRefusal}
+use Rattle.table.specs.Answers.{messageRefusal}
 use Rattle.table.proofs.Rows.{Stack, same-row}
 use Rattle.table.proofs.Deliveries.{Goes, goes, leaderOf, offerTo, took, changes, stays, cleared-row, kept-row}
 
@@ -54,7 +54,7 @@ module _ (net : Network) (t : Table) (Q U D N : ℕ) where
     pub way : getD (delivered net t Q U D N .way) (place net W E M) 0 ≡ getD (t .way) (place net W E M) 0
     pub waiting : getD (delivered net t Q U D N .waiting) (place net W E M) 0 ≡ getD (cleared net t Q U D N .waiting) (place net W E M) 0
 
-  module _ (sized : Sized net t) (right : refusalOf net ≡ 0) (made : stepRefusal net t Q U D N ≡ 0) where
+  module _ (sized : Sized net t) (right : refusalOf net ≡ 0) (made : messageRefusal net t Q U D N ≡ 0) where
     g : Goes net t Q U D N
     g = goes net t Q U D N made
 

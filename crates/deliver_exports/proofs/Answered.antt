@@ -9,7 +9,7 @@ use Rattle.words.specs.Words.{firstIn}
 use Rattle.words.specs.declared.Found.{Found}
 use Rattle.network.specs.Network.{Network, stacks}
 use Rattle.table.specs.Table.{Table, nodeAt, destinationAt, numberAt, offersTaken, delivered}
-use Rattle.table.specs.Answers.{stepRefusalIn, refusal, okMessage, waits, okSender, stepRefusal, deliverRefusal, deliverAnswer}
+use Rattle.table.specs.Answers.{messageRefusalIn, refusal, okMessage, waits, okSender, messageRefusal, deliverRefusal, deliverAnswer}
 use Rattle.table.specs.Run.{RunOutcome, oneMore, ends, turn, steps, runOf}
 use Rattle.table.specs.declared.Delivered.{Delivered}
 use Rattle.table.proofs.Begins.{rows-few}
@@ -19,8 +19,8 @@ use Rattle.table.proofs.Deliveries.{offers-most}
 
 -- ---- a delivery: refusals 4, 5 and 7 besides
 module _ (net : Network) (t : Table) (Q U D N : ℕ) where
-  step-few : stepRefusal net t Q U D N ≤ 7
-  unfolding stepRefusalIn
+  step-few : messageRefusal net t Q U D N ≤ 7
+  unfolding messageRefusalIn
   step-few = go (okMessage net t Q U D N) (waits net t Q U D N) (okSender net t Q U D N)
     where
       go : (a b c : Bool) → cond a (cond b (cond c 0 7) 5) 4 ≤ 7
@@ -33,7 +33,7 @@ module _ (net : Network) (t : Table) (Q U D N : ℕ) where
   unfolding deliverRefusal
   deliver-few = go (eqb (refusal net t) 0) refl
     where
-      go : (b : Bool) → eqb (refusal net t) 0 ≡ b → (cond b (stepRefusal net t Q U D N) (refusal net t) ≤ 7) × (cond b (stepRefusal net t Q U D N) (refusal net t) ≡ 0 → refusal net t ≡ 0)
+      go : (b : Bool) → eqb (refusal net t) 0 ≡ b → (cond b (messageRefusal net t Q U D N) (refusal net t) ≤ 7) × (cond b (messageRefusal net t Q U D N) (refusal net t) ≡ 0 → refusal net t ≡ 0)
       go true e = (step-few, λ d. eqb-true (refusal net t) 0 e)
       go false e = (omega (arith, refusal-few net t), λ d. d)
 
@@ -50,11 +50,11 @@ module _ (net : Network) (t : Table) (Q U D N : ℕ) where
 module _ (net : Network) where
   turn-few : (rest : Table → RunOutcome) → ((t : Table) → rest t .refused ≤ 7) → (t : Table) (f : Found) → turn net rest t f .refused ≤ 7
   turn-few rest less t Found.Nowhere = omega arith
-  turn-few rest less t (Found.At i U) = go (eqb (stepRefusal net t (nodeAt net i) U (destinationAt net i) (numberAt net i)) 0)
+  turn-few rest less t (Found.At i U) = go (eqb (messageRefusal net t (nodeAt net i) U (destinationAt net i) (numberAt net i)) 0)
     where
       go : (b : Bool) → cond b
           (oneMore (offersTaken net t (nodeAt net i) U (destinationAt net i) (numberAt net i)) (rest (delivered net t (nodeAt net i) U (destinationAt net i) (numberAt net i))))
-          (ends (stepRefusal net t (nodeAt net i) U (destinationAt net i) (numberAt net i)) t) .refused ≤ 7
+          (ends (messageRefusal net t (nodeAt net i) U (destinationAt net i) (numberAt net i)) t) .refused ≤ 7
       go true = less (delivered net t (nodeAt net i) U (destinationAt net i) (numberAt net i))
       go false = step-few net t (nodeAt net i) U (destinationAt net i) (numberAt net i)
 

@@ -18,7 +18,7 @@ use Rattle.words.specs.declared.Found.{Found}
 use Rattle.network.specs.Network.{Network, neighbours, refusalOf}
 use Rattle.network.proofs.Laws.{neighbours-fits}
 use Rattle.table.specs.Table.{Table, Sized, rowsAll, place, nodeAt, destinationAt, numberAt, homeAt, fresh, cleared, delivered}
-use Rattle.table.specs.Answers.{stepRefusal}
+use Rattle.table.specs.Answers.{messageRefusal}
 use Rattle.table.proofs.Rows.{of-place, is-row}
 use Rattle.table.proofs.Deliveries.{goes, took, waiting-there, waiting-here, cleared-row, kept-row}
 use Rattle.table.proofs.Refusals.{delivery-cases}
@@ -55,7 +55,7 @@ module _ (net : Network) (right : refusalOf net ≡ 0) where
       rw (getD-tabulate (rowsAll net) (λ i. cond (homeAt net i) (neighbours net (nodeAt net i)) 0) i 0 b)
       (either-fits (homeAt net i) (neighbours net (nodeAt net i)) 0 (neighbours-fits net (nodeAt net i) right) (omega arith))
 
-  module _ (t : Table) (Q U D N : ℕ) (s : Sized net t) (e : stepRefusal net t Q U D N ≡ 0) (fit : Fit t) where
+  module _ (t : Table) (Q U D N : ℕ) (s : Sized net t) (e : messageRefusal net t Q U D N ≡ 0) (fit : Fit t) where
     cleared-fits : Fit (cleared net t Q U D N)
     cleared-fits i b = by-cases (ℕ-discrete i (place net Q D N))
         (λ q. let go = goes net t Q U D N e in

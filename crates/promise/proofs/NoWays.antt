@@ -17,7 +17,7 @@ use Rattle.network.specs.Network.{Network, stacks}
 use Rattle.gateways.specs.Gateways.{accepts}
 use Rattle.gateways.proofs.Laws.{accepts-below}
 use Rattle.table.specs.Table.{Table, Sized, noRow, noWay, rowsAll, place, home, fresh, delivered}
-use Rattle.table.specs.Answers.{stepRefusal}
+use Rattle.table.specs.Answers.{messageRefusal}
 use Rattle.table.proofs.Rows.{Stack, place-below}
 use Rattle.table.proofs.Deliveries.{goes, took, leaderOf, offerTo, changes, stays, Stays, kept-row}
 use Rattle.table.proofs.Refusals.{delivery-cases}
@@ -59,7 +59,7 @@ module _ (net : Network) (W E M : ℕ) (w : W < net .n) (e : E < net .n) (m : St
   }
 
   -- ---- after a delivery
-  module _ (t : Table) (Q U D N : ℕ) (s : Sized net t) (r : stepRefusal net t Q U D N ≡ 0) (most : getD (t .cost) (place net W E M) 0 ≤ noRow) (old : Holds t) where
+  module _ (t : Table) (Q U D N : ℕ) (s : Sized net t) (r : messageRefusal net t Q U D N ≡ 0) (most : getD (t .cost) (place net W E M) 0 ≤ noRow) (old : Holds t) where
     -- the row takes an offer: it is not the destination's own, and has a cost now
     taken : W ≡ U → took net t Q U D N E M ≡ true → Holds (delivered net t Q U D N)
     taken q yes-took =

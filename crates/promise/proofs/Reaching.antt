@@ -9,7 +9,7 @@ use Rattle.relax.specs.Graph.{Step, deliver, stutter, Reach, fresh, more}
 use Rattle.relax.specs.Graph as relax
 use Rattle.network.specs.Network.{Network, refusalOf}
 use Rattle.table.specs.Table.{Table, Sized, rowsAll, vertex, delivered}
-use Rattle.table.specs.Answers.{okLengths, refusalBy, refusal, freshTable, stepRefusal}
+use Rattle.table.specs.Answers.{okLengths, refusalBy, refusal, freshTable, messageRefusal}
 use Rattle.bridge.specs.Bridge.{graphOf, stateOf, Bridged}
 use Rattle.bridge.proofs.Beginning.{fresh-sized}
 use Rattle.bridge.proofs.Theorems.{bridged}
@@ -60,9 +60,9 @@ module _ (net : Network) (ok : Network16 net) where
     bridge = bridged net (ok .valid) (ok .numbers) D d
 
     -- a delivery that goes through is a step: a delivery if it is about D, and else nothing changes
-    pub steps : (t : Table) (Q U E N : ℕ) → Sized net t → stepRefusal net t Q U E N ≡ 0 → Step (graphOf net D) (stateOf net D t) (stateOf net D (delivered net t Q U E N))
+    pub steps : (t : Table) (Q U E N : ℕ) → Sized net t → messageRefusal net t Q U E N ≡ 0 → Step (graphOf net D) (stateOf net D t) (stateOf net D (delivered net t Q U E N))
     steps t Q U E N s e = by-cases (ℕ-discrete D E)
-        (λ q. subst (λ (E : ℕ). stepRefusal net t Q U E N ≡ 0 → Step (graphOf net D) (stateOf net D t) (stateOf net D (delivered net t Q U E N))) q
+        (λ q. subst (λ (E : ℕ). messageRefusal net t Q U E N ≡ 0 → Step (graphOf net D) (stateOf net D t) (stateOf net D (delivered net t Q U E N))) q
         (λ z. deliver (vertex net Q N) U (bridge .delivery-is-a-step t Q U N s z)) e)
         (λ n. stutter (bridge .delivery-elsewhere t Q U E N s e n))
 

@@ -12,7 +12,7 @@ use Rattle.stacks.specs.Stacks.{okNumber}
 use Rattle.stacks.proofs.Tests.{within}
 use Rattle.network.specs.Network.{Network, stacks}
 use Rattle.table.specs.Table.{Table, noRow, ceiling, place}
-use Rattle.table.specs.Answers.{okMessageIn, waitsIn, okMessage, waits, stepRefusal}
+use Rattle.table.specs.Answers.{okMessageIn, waitsIn, okMessage, waits, messageRefusal}
 use Rattle.forward.specs.Answers.{lookupOf}
 use Rattle.forward.specs.declared.Look.{Look}
 use Rattle.promise.specs.Routes.{Network16, Reached}
@@ -29,7 +29,7 @@ module _ (net : Network) (ok : Network16 net) where
   never-7 t U D stack r = not-7 net ok t r U D stack
 
   -- a message that waits is delivered
-  pub delivers : (t : Table) (Q U D N : ℕ) → Reached net t → okMessage net t Q U D N ≡ true → waits net t Q U D N ≡ true → stepRefusal net t Q U D N ≡ 0
+  pub delivers : (t : Table) (Q U D N : ℕ) → Reached net t → okMessage net t Q U D N ≡ true → waits net t Q U D N ≡ true → messageRefusal net t Q U D N ≡ 0
   unfolding okMessageIn waitsIn okNumber
   delivers t Q U D N r e w =
       let a = both (ltb Q (net .n)) (ltb U (net .n) && (ltb D (net .n) && okNumber (net .p) (net .h) N)) e in

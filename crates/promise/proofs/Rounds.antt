@@ -9,7 +9,7 @@ use Rattle.words.specs.Words.{firstIn}
 use Rattle.words.specs.declared.Found.{Found}
 use Rattle.network.specs.Network.{Network}
 use Rattle.table.specs.Table.{Table, nodeAt, destinationAt, numberAt, delivered}
-use Rattle.table.specs.Answers.{stepRefusal}
+use Rattle.table.specs.Answers.{messageRefusal}
 use Rattle.table.specs.Run.{RunOutcome, turn, steps, runOf}
 use Rattle.promise.specs.Routes.{Network16, Reached, mostDeliveries, together, rounds, Quiet}
 use Rattle.promise.proofs.Fitting.{nowhere-quiet}
@@ -28,7 +28,7 @@ module _ (net : Network) (ok : Network16 net) where
   turn-ended rest k on t r (Found.At i U) e =
       let z = found-goes net ok t r i U e in
       let o = on (delivered net t (nodeAt net i) U (destinationAt net i) (numberAt net i)) (made net ok t (nodeAt net i) U (destinationAt net i) (numberAt net i) r z) in
-      rw (eq-eqb (stepRefusal net t (nodeAt net i) U (destinationAt net i) (numberAt net i)) 0 z) (o .0, λ h. o .1 (omega arith))
+      rw (eq-eqb (messageRefusal net t (nodeAt net i) U (destinationAt net i) (numberAt net i)) 0 z) (o .0, λ h. o .1 (omega arith))
 
   steps-ended : (k : ℕ) (t : Table) → Reached net t → Ended k (steps net k t)
   unfolding Ended
@@ -54,7 +54,7 @@ module _ (net : Network) (ok : Network16 net) where
   turn-again a b on t r Found.Nowhere e = idle b t e
   turn-again a b on t r (Found.At i U) e =
       let z = found-goes net ok t r i U e in
-      rw (eq-eqb (stepRefusal net t (nodeAt net i) U (destinationAt net i) (numberAt net i)) 0 z)
+      rw (eq-eqb (messageRefusal net t (nodeAt net i) U (destinationAt net i) (numberAt net i)) 0 z)
       (on (delivered net t (nodeAt net i) U (destinationAt net i) (numberAt net i)) (made net ok t (nodeAt net i) U (destinationAt net i) (numberAt net i) r z))
 
   steps-again : (a b : ℕ) (t : Table) → Reached net t → steps net b (steps net a t .table) .table ≡ steps net (a + b) t .table

@@ -16,7 +16,7 @@ use Rattle.words.proofs.Answers.{Here, first-at, first-whole}
 use Rattle.network.specs.Network.{Network, stacks, present}
 use Rattle.network.proofs.Laws.{valid, present-nodes}
 use Rattle.table.specs.Table.{Table, ceiling, rowsAll, place, nodeAt, destinationAt, numberAt, vertex, delivered, offersTaken}
-use Rattle.table.specs.Answers.{okMessageIn, waitsIn, okSenderIn, stepRefusalIn, refusal, stepRefusal, deliverRefusal, deliverTable}
+use Rattle.table.specs.Answers.{okMessageIn, waitsIn, okSenderIn, messageRefusalIn, refusal, messageRefusal, deliverRefusal, deliverTable}
 use Rattle.table.specs.Run.{RunOutcome, oneMore, ends, turn, steps, runOf}
 use Rattle.table.proofs.Rows.{Stack, Row, is-row, of-place, vertex-node, vertex-below}
 use Rattle.bridge.specs.Bridge.{graphOf, stateOf}
@@ -28,11 +28,11 @@ use Rattle.promise.proofs.Fitting.{words-fit}
 
 module _ (net : Network) (ok : Network16 net) where
   -- ---- a delivery that is not refused is what `deliver` leaves
-  pub through : (t : Table) (Q U D N : ℕ) → Reached net t → stepRefusal net t Q U D N ≡ 0 → deliverTable net t Q U D N ≡ delivered net t Q U D N
+  pub through : (t : Table) (Q U D N : ℕ) → Reached net t → messageRefusal net t Q U D N ≡ 0 → deliverTable net t Q U D N ≡ delivered net t Q U D N
   unfolding deliverTable deliverRefusal
-  through t Q U D N r e = simp (eq-eqb (refusal net t) 0 (reached-refusal net ok r), eq-eqb (stepRefusal net t Q U D N) 0 e)
+  through t Q U D N r e = simp (eq-eqb (refusal net t) 0 (reached-refusal net ok r), eq-eqb (messageRefusal net t Q U D N) 0 e)
 
-  pub made : (t : Table) (Q U D N : ℕ) → Reached net t → stepRefusal net t Q U D N ≡ 0 → Reached net (delivered net t Q U D N)
+  pub made : (t : Table) (Q U D N : ℕ) → Reached net t → messageRefusal net t Q U D N ≡ 0 → Reached net (delivered net t Q U D N)
   made t Q U D N r e = subst (Reached net) (through t Q U D N r e) (delivery Q U D N r)
 
   -- ---- so a run from t, or from a table s after it, is more deliveries
@@ -40,7 +40,7 @@ module _ (net : Network) (ok : Network16 net) where
     turn-later : (rest : Table → RunOutcome) → ((s : Table) → Later net t s → Later net t (rest s .table)) → (s : Table) → Later net t s
         → (f : Found) → Later net t (turn net rest s f .table)
     turn-later rest on s l Found.Nowhere = l
-    turn-later rest on s l (Found.At i U) = go (eqb (stepRefusal net s Q U D N) 0) refl
+    turn-later rest on s l (Found.At i U) = go (eqb (messageRefusal net s Q U D N) 0) refl
       where
         Q : ℕ
         Q = nodeAt net i
@@ -51,9 +51,9 @@ module _ (net : Network) (ok : Network16 net) where
         N : ℕ
         N = numberAt net i
 
-        go : (b : Bool) → eqb (stepRefusal net s Q U D N) 0 ≡ b
-            → Later net t (cond b (oneMore (offersTaken net s Q U D N) (rest (delivered net s Q U D N))) (ends (stepRefusal net s Q U D N) s) .table)
-        go true z = on _ (subst (Later net t) (through s Q U D N (reached-later net r l) (eqb-true (stepRefusal net s Q U D N) 0 z)) (delivery Q U D N l))
+        go : (b : Bool) → eqb (messageRefusal net s Q U D N) 0 ≡ b
+            → Later net t (cond b (oneMore (offersTaken net s Q U D N) (rest (delivered net s Q U D N))) (ends (messageRefusal net s Q U D N) s) .table)
+        go true z = on _ (subst (Later net t) (through s Q U D N (reached-later net r l) (eqb-true (messageRefusal net s Q U D N) 0 z)) (delivery Q U D N l))
         go false z = l
 
     steps-later : (k : ℕ) (s : Table) → Later net t s → Later net t (steps net k s .table)
@@ -84,8 +84,8 @@ module _ (net : Network) (ok : Network16 net) where
     price : getD (t .cost) (place net Q D N) 0 ≤ ceiling
     price = cost-most net ok t r Q D N (λ z. told .priced (cost-is net Q D N q n t ∙ z)) q d n
 
-    pub goes-through : stepRefusal net t Q U D N ≡ 0
-    unfolding stepRefusalIn okMessageIn waitsIn okSenderIn present
+    pub goes-through : messageRefusal net t Q U D N ≡ 0
+    unfolding messageRefusalIn okMessageIn waitsIn okSenderIn present
     goes-through = simp (
       lt-ltb Q (net .n) q,
       lt-ltb U (net .n) (present-nodes net U Q linked .0),
@@ -99,7 +99,7 @@ module _ (net : Network) (ok : Network16 net) where
 
   -- ---- so the message that a turn finds is delivered
   pub found-goes : (t : Table) → Reached net t → (i U : ℕ) → firstIn (t .waiting) ≡ Found.At i U
-      → stepRefusal net t (nodeAt net i) U (destinationAt net i) (numberAt net i) ≡ 0
+      → messageRefusal net t (nodeAt net i) U (destinationAt net i) (numberAt net i) ≡ 0
   found-goes t r i U e = goes-through t r (nodeAt net i) (destinationAt net i) (numberAt net i) U (row .node) (row .destination) (row .stack) set
     where
       here : Here (t .waiting) 0 (min (length (t .waiting)) (length (t .waiting))) i U

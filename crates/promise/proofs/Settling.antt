@@ -16,7 +16,7 @@ use Rattle.words.specs.Words.{firstIn}
 use Rattle.words.specs.declared.Found.{Found}
 use Rattle.network.specs.Network.{Network}
 use Rattle.table.specs.Table.{Table, rowsEach, nodeAt, destinationAt, numberAt, fresh, delivered}
-use Rattle.table.specs.Answers.{refusal, stepRefusal, deliverRefusal}
+use Rattle.table.specs.Answers.{refusal, messageRefusal, deliverRefusal}
 use Rattle.table.specs.Run.{RunOutcome, turn, steps, runOf}
 use Rattle.table.proofs.Deliveries.{goes}
 use Rattle.bridge.specs.Bridge.{graphOf, stateOf}
@@ -51,7 +51,7 @@ module _ (net : Network) where
         (λ d. omega (arith, for-none t D (omega arith))))
 
     -- ---- a delivery about E
-    module _ {t : Table} (r : Reached net t) (Q U E N : ℕ) (e : stepRefusal net t Q U E N ≡ 0) where
+    module _ {t : Table} (r : Reached net t) (Q U E N : ℕ) (e : messageRefusal net t Q U E N ≡ 0) where
       abbrev next : Table
       next = delivered net t Q U E N
 
@@ -89,7 +89,7 @@ module _ (net : Network) where
     turn-settles rest k on t r h (Found.At i U) e =
         let z = found-goes net ok t r i U e in
         let u = delivered net t (nodeAt net i) U (destinationAt net i) (numberAt net i) in
-        rw (eq-eqb (stepRefusal net t (nodeAt net i) U (destinationAt net i) (numberAt net i)) 0 z)
+        rw (eq-eqb (messageRefusal net t (nodeAt net i) U (destinationAt net i) (numberAt net i)) 0 z)
         (on u (made net ok t (nodeAt net i) U (destinationAt net i) (numberAt net i) r z)
         (omega (arith, total-falls r (nodeAt net i) U (destinationAt net i) (numberAt net i) z)))
 
@@ -105,9 +105,9 @@ module _ (net : Network) where
     done-reached begun = begun
     done-reached (delivery Q U D N d e) = delivery Q U D N (done-reached d)
 
-    step-goes : {t : Table} → Reached net t → (Q U D N : ℕ) → deliverRefusal net t Q U D N ≡ 0 → stepRefusal net t Q U D N ≡ 0
+    step-goes : {t : Table} → Reached net t → (Q U D N : ℕ) → deliverRefusal net t Q U D N ≡ 0 → messageRefusal net t Q U D N ≡ 0
     unfolding deliverRefusal
-    step-goes {t} r Q U D N e = let same : deliverRefusal net t Q U D N ≡ stepRefusal net t Q U D N = simp (eq-eqb (refusal net t) 0 (reached-refusal net ok r)) in sym same ∙ e
+    step-goes {t} r Q U D N e = let same : deliverRefusal net t Q U D N ≡ messageRefusal net t Q U D N = simp (eq-eqb (refusal net t) 0 (reached-refusal net ok r)) in sym same ∙ e
 
     paid : {k : ℕ} {t : Table} → Done net k t → k + total t ≤ total (fresh net)
     paid begun = omega arith

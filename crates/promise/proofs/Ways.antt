@@ -17,7 +17,7 @@ use Rattle.network.proofs.Laws.{valid}
 use Rattle.gateways.specs.Gateways.{can}
 use Rattle.hear.specs.Hearing.{leader}
 use Rattle.table.specs.Table.{Table, Sized, noRow, place, home, gateway, fresh, delivered}
-use Rattle.table.specs.Answers.{stepRefusal}
+use Rattle.table.specs.Answers.{messageRefusal}
 use Rattle.table.proofs.Rows.{Stack}
 use Rattle.table.proofs.Deliveries.{Goes, goes, told, leaderOf, offerTo, took, changes, stays}
 use Rattle.table.proofs.Refusals.{delivery-cases}
@@ -80,7 +80,7 @@ module _ (net : Network) where
         let kept = stays net t Q Z E M s (go .receiver) D N d n U not-took in
         subst (Leading U N) (sym (kept .way)) (before (λ e. priced (kept .cost ∙ e)))
 
-  led-delivered : Network16 net → (t : Table) (Q Z E M : ℕ) → Sized net t → stepRefusal net t Q Z E M ≡ 0 → Led t → Led (delivered net t Q Z E M)
+  led-delivered : Network16 net → (t : Table) (Q Z E M : ℕ) → Sized net t → messageRefusal net t Q Z E M ≡ 0 → Led t → Led (delivered net t Q Z E M)
   unfolding Led
   led-delivered ok t Q Z E M s e before U D N a priced =
       let go = goes net t Q Z E M e in

@@ -9,7 +9,7 @@ use Rattle.stacks.specs.Stacks.{number}
 use Rattle.network.specs.Network.{Network, stacks}
 use Rattle.gateways.specs.Gateways.{accepts}
 use Rattle.table.specs.Table.{Table, noRow, noWay, ceiling, place}
-use Rattle.table.specs.Answers.{refusal, freshTable, firstAnswer, okMessage, waits, stepRefusal}
+use Rattle.table.specs.Answers.{refusal, freshTable, firstAnswer, okMessage, waits, messageRefusal}
 use Rattle.table.specs.Run.{runOf}
 use Rattle.table.specs.declared.First.{First}
 use Rattle.packet.specs.Packet.{okPacket}
@@ -58,7 +58,7 @@ module _ (net : Network) where
     pub ceiling-kept : (t : Table) (U D N : ℕ) → Reached net t → getD (t .cost) (place net U D N) 0 ≢ noRow → U < net .n → D < net .n → 1 ≤ N → N ≤ stacks net
         → getD (t .cost) (place net U D N) 0 ≤ ceiling
     -- no delivery of a waiting message is refused,
-    pub delivers : (t : Table) (Q U D N : ℕ) → Reached net t → okMessage net t Q U D N ≡ true → waits net t Q U D N ≡ true → stepRefusal net t Q U D N ≡ 0
+    pub delivers : (t : Table) (Q U D N : ℕ) → Reached net t → okMessage net t Q U D N ≡ true → waits net t Q U D N ≡ true → messageRefusal net t Q U D N ≡ 0
     -- no lookup and no carry answers 7,
     pub never-7 : (t : Table) (U D : ℕ) (stack : List ℕ) → Reached net t → lookRefusal (lookupOf net t U D stack) ≢ 7
     pub carry-never-7 : (t : Table) (U D limit : ℕ) (stack : List ℕ) → Reached net t → carryOf net t U D stack limit .refused ≢ 7

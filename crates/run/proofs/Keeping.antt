@@ -13,7 +13,7 @@ use Rattle.words.specs.declared.Found.{Found}
 use Rattle.network.specs.Network.{Network, refusalOf}
 use Rattle.network.proofs.Laws.{valid}
 use Rattle.table.specs.Table.{Table, nodeAt, destinationAt, numberAt, offersTaken}
-use Rattle.table.specs.Answers.{refusal, stepRefusal}
+use Rattle.table.specs.Answers.{refusal, messageRefusal}
 use Rattle.table.specs.Run.{RunOutcome, Runs, ends, steps, runOf}
 use Rattle.run.specs.Flags.{Flagged}
 use Rattle.run.specs.Turns.{Prepared, turnOf, turnAt, turnAnswer, Turned, continued}
@@ -29,7 +29,7 @@ use Rattle.run.proofs.Running.{Going, starts, goes-on, stops, all-done,
 pub offers-few : (net : Network) (t : Table) (x : ℕ) → refusalOf net ≡ 0 → turnAnswer net t ≡ Turn.Offers x → x ≤ 16384
 offers-few net t x right e = go (firstIn (t .waiting)) e
   where
-    pick : (i U : ℕ) (b : Bool) → turnOf (cond b (Delivered.Rows (offersTaken net t (nodeAt net i) U (destinationAt net i) (numberAt net i))) (Delivered.Refused (stepRefusal net t (nodeAt net i) U (destinationAt net i) (numberAt net i)))) ≡ Turn.Offers x
+    pick : (i U : ℕ) (b : Bool) → turnOf (cond b (Delivered.Rows (offersTaken net t (nodeAt net i) U (destinationAt net i) (numberAt net i))) (Delivered.Refused (messageRefusal net t (nodeAt net i) U (destinationAt net i) (numberAt net i)))) ≡ Turn.Offers x
         → x ≤ 16384
     pick i U true d =
         let q : offersTaken net t (nodeAt net i) U (destinationAt net i) (numberAt net i) ≡ x = cc in
@@ -38,7 +38,7 @@ offers-few net t x right e = go (firstIn (t .waiting)) e
 
     go : (f : Found) → turnAt net t f ≡ Turn.Offers x → x ≤ 16384
     go Found.Nowhere d = absurd (let z : _≡_ {A = ℕ} 0 1 = cc in omega arith)
-    go (Found.At i U) d = pick i U (eqb (stepRefusal net t (nodeAt net i) U (destinationAt net i) (numberAt net i)) 0) d
+    go (Found.At i U) d = pick i U (eqb (messageRefusal net t (nodeAt net i) U (destinationAt net i) (numberAt net i)) 0) d
 
 -- ---- at first every flag of every node is set
 all-bits : (k : ℕ) → wordOf k (λ (d : ℕ). true) + 1 ≡ 2 ^ k

@@ -15,14 +15,14 @@ use Rattle.bits.proofs.Laws.{without-le}
 use Rattle.network.specs.Network.{Network, stacks}
 use Rattle.hear.specs.Hearing.{takes, taken}
 use Rattle.table.specs.Table.{Table, Sized, rowsAll, place, vertex, nodeAt, destinationAt, numberAt, rowsAt, gateway, message, cleared, delivered, offersTaken}
-use Rattle.table.specs.Answers.{stepRefusal}
+use Rattle.table.specs.Answers.{messageRefusal}
 use Rattle.run.specs.Flags.{Flagged}
 use Rattle.run.specs.Turns.{flagsAfter}
 use Rattle.table.proofs.Rows.{Stack, is-row, of-place, vertex-below}
 use Rattle.table.proofs.Deliveries.{Goes, goes, took, stays, takes-took, delivered-sized, cleared-row, kept-row, rows-long}
 use Rattle.run.proofs.Flags.{flagged-kept, flagged-set}
 
-module _ (net : Network) (t : Table) (Q U D N : ℕ) (sized : Sized net t) (made : stepRefusal net t Q U D N ≡ 0) where
+module _ (net : Network) (t : Table) (Q U D N : ℕ) (sized : Sized net t) (made : messageRefusal net t Q U D N ≡ 0) where
   g : Goes net t Q U D N
   g = goes net t Q U D N made
 

@@ -8,7 +8,7 @@ use Rattle.words.specs.Words.{firstIn}
 use Rattle.words.specs.declared.Found.{Found}
 use Rattle.network.specs.Network.{Network}
 use Rattle.table.specs.Table.{Table, nodeAt, destinationAt, numberAt, delivered, offersTaken}
-use Rattle.table.specs.Answers.{stepRefusal}
+use Rattle.table.specs.Answers.{messageRefusal}
 use Rattle.table.specs.Run.{RunOutcome, oneMore, ends, turn, steps}
 use Rattle.table.specs.declared.Delivered.{Delivered}
 use Rattle.step.specs.InNetwork.{stepTable}
@@ -23,7 +23,7 @@ module _ (net : Network) (t : Table) (rest : Table → RunOutcome) where
   -- the step of a turn, where it is refused and where not
   module _ (i U : ℕ) where
     abbrev refused : ℕ
-    refused = stepRefusal net t (nodeAt net i) U (destinationAt net i) (numberAt net i)
+    refused = messageRefusal net t (nodeAt net i) U (destinationAt net i) (numberAt net i)
 
     abbrev offers : ℕ
     offers = offersTaken net t (nodeAt net i) U (destinationAt net i) (numberAt net i)

@@ -19,7 +19,7 @@ use Rattle.network.specs.Network.{Network, stacks, link}
 use Rattle.network.proofs.Laws.{valid}
 use Rattle.hear.specs.Answers.{gatewayOf}
 use Rattle.table.specs.Table.{Table, nodeAt, destinationAt, numberAt, delivered, offersTaken}
-use Rattle.table.specs.Answers.{stepRefusal, deliveredRows}
+use Rattle.table.specs.Answers.{messageRefusal, deliveredRows}
 use Rattle.table.specs.declared.Delivered.{Delivered}
 use Rattle.step.specs.Step.{Stepped}
 use Rattle.step.specs.InNetwork.{stepAnswer, stepTable}
@@ -66,21 +66,21 @@ module _ (net : Network) (t : Table) (i U : ℕ) (found : firstIn (t .waiting) �
       → answer ≡ stepAnswer net t Q U D N → after ≡ stepTable net t Q U D N → flags′ ≡ flagsAfter flags U D (deliveredRows answer)
       → Turned net (stacks net) t (turnOf answer) after flags′
   unfolding stepTable
-  turned w answer after flags′ f e q l = go (eqb (stepRefusal net t Q U D N) 0) refl
+  turned w answer after flags′ f e q l = go (eqb (messageRefusal net t Q U D N) 0) refl
     where
-      go : (b : Bool) → eqb (stepRefusal net t Q U D N) 0 ≡ b → Turned net (stacks net) t (turnOf answer) after flags′
+      go : (b : Bool) → eqb (messageRefusal net t Q U D N) 0 ≡ b → Turned net (stacks net) t (turnOf answer) after flags′
       go true z =
           let a : answer ≡ Delivered.Rows (offersTaken net t Q U D N) = e ∙ simp z in
           let b : after ≡ delivered net t Q U D N = q ∙ simp z in
           let c : flags′ ≡ flagsAfter flags U D (offersTaken net t Q U D N) = l ∙ ap (λ (x : Delivered). flagsAfter flags U D (deliveredRows x)) a in
-          let right = flags-right net t Q U D N (w .sized) (eqb-true (stepRefusal net t Q U D N) 0 z) (stacks net) flags refl f in
+          let right = flags-right net t Q U D N (w .sized) (eqb-true (messageRefusal net t Q U D N) 0 z) (stacks net) flags refl f in
           record {
             answers = ap turnOf e ∙ sym (ap (turnAt net t) found);
             table = q ∙ sym (ap (tableAt net t) found);
             flagged = subst (λ (x : Table). Flagged (net .n) (stacks net) flags′ (x .waiting)) (sym b) (subst (λ (x : List ℕ). Flagged (net .n) (stacks net) x (delivered net t Q U D N .waiting)) (sym c) right);
           }
       go false z =
-          let a : answer ≡ Delivered.Refused (stepRefusal net t Q U D N) = e ∙ simp z in
+          let a : answer ≡ Delivered.Refused (messageRefusal net t Q U D N) = e ∙ simp z in
           let b : after ≡ t = q ∙ simp z in
           let c : flags′ ≡ flags = l ∙ ap (λ (x : Delivered). flagsAfter flags U D (deliveredRows x)) a in
           record {

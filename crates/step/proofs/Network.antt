@@ -19,7 +19,7 @@ use Rattle.hear.specs.Answers.{gatewayOf}
 use Rattle.hear.specs.Answers as hearing
 use Rattle.hear.proofs.Laws.{Alike, heard-same, taken-same}
 use Rattle.table.specs.Table.{Table, Sized, rowsAt, gateway, message, cleared, delivered, offersTaken}
-use Rattle.table.specs.Answers.{stepRefusal}
+use Rattle.table.specs.Answers.{messageRefusal}
 use Rattle.table.specs.declared.Delivered.{Delivered}
 use Rattle.table.proofs.Deliveries.{goes}
 use Rattle.step.specs.Step.{okRows, tableAfter, Stepped}
@@ -58,7 +58,7 @@ module _ (net : Network) (t : Table) (right : refusalOf net ≡ 0) (sized : Size
       let few : stacks net ≤ 16384 = omega (arith, v .room, mul-le-mul-right (stacks net) (v .nodes), one-mul (stacks net)) in
       simp (le-leb 1 (net .p) (z .some), le-leb (net .p) 8 (z .few), le-leb (net .n) 32 (v .few), le-leb (stacks net) 16384 few, sized .costs, sized .ways, sized .waits, eq-eqb (net .n * (net .n * stacks net)) (net .n * (net .n * stacks net)) refl)
 
-  same-refusal : step.refusalIn (net .n) (net .p) (stacks net) (link net U Q) t Q U D N ≡ stepRefusal net t Q U D N
+  same-refusal : step.refusalIn (net .n) (net .p) (stacks net) (link net U Q) t Q U D N ≡ messageRefusal net t Q U D N
   unfolding step.refusalIn
   same-refusal = simp sizes-right
 
@@ -70,11 +70,11 @@ module _ (net : Network) (t : Table) (right : refusalOf net ≡ 0) (sized : Size
     same : (answer : Delivered) (after : Table) → Stepped (net .n) (hears (stacks net)) (link net U Q) t Q U D N answer after
         → (answer ≡ stepAnswer net t Q U D N) × (after ≡ stepTable net t Q U D N)
     unfolding tableAfter stepTable delivered offersTaken
-    same answer after x = go (eqb (stepRefusal net t Q U D N) 0) refl
+    same answer after x = go (eqb (messageRefusal net t Q U D N) 0) refl
       where
-        go : (b : Bool) → eqb (stepRefusal net t Q U D N) 0 ≡ b → (answer ≡ stepAnswer net t Q U D N) × (after ≡ stepTable net t Q U D N)
+        go : (b : Bool) → eqb (messageRefusal net t Q U D N) 0 ≡ b → (answer ≡ stepAnswer net t Q U D N) × (after ≡ stepTable net t Q U D N)
         go true q =
-            let like = alike-of net U near convert wrap unwrap (own (goes net t Q U D N (eqb-true (stepRefusal net t Q U D N) 0 q) .receiver)) in
+            let like = alike-of net U near convert wrap unwrap (own (goes net t Q U D N (eqb-true (messageRefusal net t Q U D N) 0 q) .receiver)) in
             let m = message net t Q U D N in
             let r = rowsAt net U (cleared net t Q U D N) in (
               x .answers ∙ simp (same-refusal, q) (ap Delivered.Rows (taken-same (hears (stacks net)) (gateway net U) m like r)),

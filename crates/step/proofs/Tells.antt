@@ -12,7 +12,7 @@ use borrow.Author.Tests.{leb-true, eqb-true, lt-ltb, le-leb, lt-leb}
 use Rattle.lists.proofs.Tests.{both}
 use Rattle.bits.specs.Bits.{has}
 use Rattle.table.specs.Table.{Table, ceiling, placeIn, costIn}
-use Rattle.table.specs.Answers.{okMessageIn, waitsIn, okSenderIn, stepRefusalIn}
+use Rattle.table.specs.Answers.{okMessageIn, waitsIn, okSenderIn, messageRefusalIn}
 use Rattle.table.proofs.Rows.{place-parts}
 use Rattle.table.proofs.Order.{four-first, five-next, seven-last, then-none, all-pass}
 use Rattle.step.specs.Step.{okRows, refusalIn}
@@ -33,7 +33,7 @@ module _ (n p s link : ℕ) (t : Table) (Q U D N : ℕ) where
   bad-sizes e = refused 3 (simp e) refl
 
   -- sizes that are right: the delivery's own refusals are left
-  fits : Fit → refusalIn n p s link t Q U D N ≡ stepRefusalIn n s link t Q U D N
+  fits : Fit → refusalIn n p s link t Q U D N ≡ messageRefusalIn n s link t Q U D N
   unfolding refusalIn
   fits fit = simp fit
 
@@ -92,7 +92,7 @@ module _ (n p s link : ℕ) (t : Table) (Q U D N : ℕ) where
       → (okRows n p s (length (t .cost)) (length (t .way)) (length (t .waiting)) ≡ true) × (okMessageIn n s Q U D N ≡ true) × (costIn n s t Q D N ≤ ceiling)
   unfolding refusalIn okSenderIn
   good z =
-      let r = none-refused (okRows n p s (length (t .cost)) (length (t .way)) (length (t .waiting))) (stepRefusalIn n s link t Q U D N) z in
+      let r = none-refused (okRows n p s (length (t .cost)) (length (t .way)) (length (t .waiting))) (messageRefusalIn n s link t Q U D N) z in
       let a = all-pass n s link t Q U D N (r .1) in
       (r .0, a .0, leb-true (costIn n s t Q D N) ceiling (both (leb (costIn n s t Q D N) ceiling) (ltb 0 link) (a .2) .0))
 

@@ -5,7 +5,7 @@ use mathlib.Core.List.{List}
 use Rattle.network.specs.Network.{Network, neighbours}
 use Rattle.gateways.specs.Gateways.{gridOf}
 use Rattle.table.specs.Table.{Table, delivered, offersTaken}
-use Rattle.table.specs.Answers.{stepRefusal, answerBy, tableBy}
+use Rattle.table.specs.Answers.{messageRefusal, answerBy, tableBy}
 use Rattle.table.specs.declared.Delivered.{Delivered}
 
 -- the neighbours and the grids that a step is handed are those of the receiver U
@@ -18,7 +18,7 @@ pub record Equipped (net : Network) (U near : ℕ) (convert wrap unwrap : List (
 -- what it answers, and the table that it leaves
 module _ (net : Network) (t : Table) (Q U D N : ℕ) where
   abbrev pub stepAnswer : Delivered
-  stepAnswer = answerBy (stepRefusal net t Q U D N) (offersTaken net t Q U D N)
+  stepAnswer = answerBy (messageRefusal net t Q U D N) (offersTaken net t Q U D N)
 
   unfoldable pub stepTable : Table
-  stepTable = tableBy (stepRefusal net t Q U D N) (delivered net t Q U D N) t
+  stepTable = tableBy (messageRefusal net t Q U D N) (delivered net t Q U D N) t

@@ -7,7 +7,7 @@ use lib.Dec.{leb, eqb}
 use Rattle.lists.specs.Lists.{unless}
 use Rattle.hear.specs.Hearing.{Gateway}
 use Rattle.table.specs.Table.{Table, deliveredIn, offersIn}
-use Rattle.table.specs.Answers.{stepRefusalIn, answerBy, tableBy}
+use Rattle.table.specs.Answers.{messageRefusalIn, answerBy, tableBy}
 use Rattle.table.specs.declared.Delivered.{Delivered}
 
 -- Where this fails refusal 3 is given, for every size or length with which the rows cannot be counted: n nodes, p protocols and s stacks
@@ -20,7 +20,7 @@ okRows n p s costs ways waits =
 -- the first refusal that applies, and 0 where none does; the link back costs `back`
 unfoldable pub refusalIn : (n p s back : ℕ) (t : Table) (Q U D N : ℕ) → ℕ
 refusalIn n p s back t Q U D N =
-    unless (okRows n p s (length (t .cost)) (length (t .way)) (length (t .waiting))) 3 (stepRefusalIn n s back t Q U D N)
+    unless (okRows n p s (length (t .cost)) (length (t .way)) (length (t .waiting))) 3 (messageRefusalIn n s back t Q U D N)
 
 -- the message from Q to U, which is the gateway g, about D and the stack number N
 module _ (n : ℕ) (g : Gateway) (back : ℕ) (t : Table) (Q U D N : ℕ) where

@@ -22,7 +22,7 @@ use Rattle.network.specs.Network.{Network, stacks, link, present, neighbours}
 use Rattle.hear.specs.Hearing.{Message, Rows, leader, offer, takes, costAt, wayAt, waitingAt, heard, taken}
 use Rattle.hear.proofs.Laws.{heard-long, getD-heard-costs, getD-heard-ways, getD-heard-waiting}
 use Rattle.table.specs.Table.{Table, Sized, rowsIn, withRowsIn, clearedAt, vertex, ceiling, rowsEach, rowsAll, place, rowsAt, gateway, message, cleared, delivered, offersTaken}
-use Rattle.table.specs.Answers.{okMessageIn, waitsIn, okSenderIn, stepRefusal}
+use Rattle.table.specs.Answers.{okMessageIn, waitsIn, okSenderIn, messageRefusal}
 use Rattle.table.proofs.Order.{all-pass}
 use Rattle.table.proofs.Rows.{Stack, vertex-node, vertex-number, vertex-below, place-split, place-below, part-long, part-read, put-long, put-here, put-there}
 
@@ -36,7 +36,7 @@ pub record Goes (net : Network) (t : Table) (Q U D N : ℕ) : Type 0 where
   pub linked : present net U Q ≡ true
   pub priced : getD (t .cost) (place net Q D N) 0 ≤ ceiling
 
-pub goes : (net : Network) (t : Table) (Q U D N : ℕ) → stepRefusal net t Q U D N ≡ 0 → Goes net t Q U D N
+pub goes : (net : Network) (t : Table) (Q U D N : ℕ) → messageRefusal net t Q U D N ≡ 0 → Goes net t Q U D N
 unfolding okMessageIn waitsIn okSenderIn okNumber present
 goes net t Q U D N e =
     let r = all-pass (net .n) (stacks net) (link net U Q) t Q U D N e in

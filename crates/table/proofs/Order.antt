@@ -4,25 +4,25 @@ use native.Mathlib.Omega.{arith}
 use mathlib.Core.Path.{_≡_, refl}
 use mathlib.Core.Bool.{Bool, true, false, cond}
 use Rattle.table.specs.Table.{Table}
-use Rattle.table.specs.Answers.{okMessageIn, waitsIn, okSenderIn, stepRefusalIn}
+use Rattle.table.specs.Answers.{okMessageIn, waitsIn, okSenderIn, messageRefusalIn}
 
 module _ (n s back : ℕ) (t : Table) (Q U D N : ℕ) where
   -- numbers out of range are refused whatever the table holds
-  pub four-first : okMessageIn n s Q U D N ≡ false → stepRefusalIn n s back t Q U D N ≡ 4
-  unfolding stepRefusalIn
+  pub four-first : okMessageIn n s Q U D N ≡ false → messageRefusalIn n s back t Q U D N ≡ 4
+  unfolding messageRefusalIn
   four-first bad = simp bad
 
   -- a message that does not wait is refused whatever its sender's row and the link cost
-  pub five-next : okMessageIn n s Q U D N ≡ true → waitsIn n s t Q U D N ≡ false → stepRefusalIn n s back t Q U D N ≡ 5
-  unfolding stepRefusalIn
+  pub five-next : okMessageIn n s Q U D N ≡ true → waitsIn n s t Q U D N ≡ false → messageRefusalIn n s back t Q U D N ≡ 5
+  unfolding messageRefusalIn
   five-next good bad = simp (good, bad)
 
-  pub seven-last : okMessageIn n s Q U D N ≡ true → waitsIn n s t Q U D N ≡ true → okSenderIn n s back t Q D N ≡ false → stepRefusalIn n s back t Q U D N ≡ 7
-  unfolding stepRefusalIn
+  pub seven-last : okMessageIn n s Q U D N ≡ true → waitsIn n s t Q U D N ≡ true → okSenderIn n s back t Q D N ≡ false → messageRefusalIn n s back t Q U D N ≡ 7
+  unfolding messageRefusalIn
   seven-last good waits bad = simp (good, waits, bad)
 
-  pub then-none : okMessageIn n s Q U D N ≡ true → waitsIn n s t Q U D N ≡ true → okSenderIn n s back t Q D N ≡ true → stepRefusalIn n s back t Q U D N ≡ 0
-  unfolding stepRefusalIn
+  pub then-none : okMessageIn n s Q U D N ≡ true → waitsIn n s t Q U D N ≡ true → okSenderIn n s back t Q D N ≡ true → messageRefusalIn n s back t Q U D N ≡ 0
+  unfolding messageRefusalIn
   then-none good waits sends = simp (good, waits, sends)
 
 -- and where none applies, every test holds
@@ -32,7 +32,7 @@ none-refused true true false e = absurd (omega arith)
 none-refused true false c e = absurd (omega arith)
 none-refused false b c e = absurd (omega arith)
 
-pub all-pass : (n s back : ℕ) (t : Table) (Q U D N : ℕ) → stepRefusalIn n s back t Q U D N ≡ 0
+pub all-pass : (n s back : ℕ) (t : Table) (Q U D N : ℕ) → messageRefusalIn n s back t Q U D N ≡ 0
     → (okMessageIn n s Q U D N ≡ true) × (waitsIn n s t Q U D N ≡ true) × (okSenderIn n s back t Q D N ≡ true)
-unfolding stepRefusalIn
+unfolding messageRefusalIn
 all-pass n s back t Q U D N e = none-refused (okMessageIn n s Q U D N) (waitsIn n s t Q U D N) (okSenderIn n s back t Q D N) e

@@ -12,7 +12,7 @@ use Rattle.network.specs.Network.{Network, stacks, refusalOf}
 use Rattle.network.specs.declared.Checked.{Checked}
 use Rattle.network.proofs.Laws.{refusal-most}
 use Rattle.table.specs.Table.{Table, delivered}
-use Rattle.table.specs.Answers.{okLengths, refusalBy, refusal, stepRefusal, deliverRefusal, deliverTable}
+use Rattle.table.specs.Answers.{okLengths, refusalBy, refusal, messageRefusal, deliverRefusal, deliverTable}
 use Rattle.table.proofs.Begins.{Ready, is-ready}
 
 module _ (net : Network) (t : Table) where
@@ -47,11 +47,11 @@ module _ (net : Network) (t : Table) where
 -- ---- a delivery goes through, or leaves the table as it is
 module _ (net : Network) (t : Table) (Q U D N : ℕ) where
   -- a delivery that is not refused has none of its own refusals either, and makes the table that is its definition
-  pub goes-through : deliverRefusal net t Q U D N ≡ 0 → (stepRefusal net t Q U D N ≡ 0) × (deliverTable net t Q U D N ≡ delivered net t Q U D N)
+  pub goes-through : deliverRefusal net t Q U D N ≡ 0 → (messageRefusal net t Q U D N ≡ 0) × (deliverTable net t Q U D N ≡ delivered net t Q U D N)
   unfolding deliverRefusal deliverTable
   goes-through e = (go (eqb (refusal net t) 0) refl e, rw (eq-eqb (deliverRefusal net t Q U D N) 0 e) refl)
     where
-      go : (b : Bool) → eqb (refusal net t) 0 ≡ b → cond b (stepRefusal net t Q U D N) (refusal net t) ≡ 0 → stepRefusal net t Q U D N ≡ 0
+      go : (b : Bool) → eqb (refusal net t) 0 ≡ b → cond b (messageRefusal net t Q U D N) (refusal net t) ≡ 0 → messageRefusal net t Q U D N ≡ 0
       go true z d = d
       go false z d = absurd (true≢false (sym (eq-eqb (refusal net t) 0 d) ∙ z))
 
@@ -60,7 +60,7 @@ module _ (net : Network) (t : Table) (Q U D N : ℕ) where
   refused-stays n = rw (ne-eqb (deliverRefusal net t Q U D N) 0 n) refl
 
   -- so what holds in both cases holds of the table after any call of deliver
-  pub delivery-cases : (P : Table → Type 0) → (stepRefusal net t Q U D N ≡ 0 → P (delivered net t Q U D N)) → P t → P (deliverTable net t Q U D N)
+  pub delivery-cases : (P : Table → Type 0) → (messageRefusal net t Q U D N ≡ 0 → P (delivered net t Q U D N)) → P t → P (deliverTable net t Q U D N)
   delivery-cases P through same = by-cases (ℕ-discrete (deliverRefusal net t Q U D N) 0)
       (λ e. let g = goes-through e in subst P (sym (g .1)) (through (g .0)))
       (λ n. subst P (sym (refused-stays n)) same)

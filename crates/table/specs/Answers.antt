@@ -43,8 +43,8 @@ unfoldable pub okSenderIn : ℕ → ℕ → ℕ → Table → ℕ → ℕ → �
 okSenderIn n s back t Q D N = leb (costIn n s t Q D N) ceiling && ltb 0 back
 
 -- the first of them that applies; 0 where none does
-unfoldable pub stepRefusalIn : ℕ → ℕ → ℕ → Table → ℕ → ℕ → ℕ → ℕ → ℕ
-stepRefusalIn n s back t Q U D N = unless (okMessageIn n s Q U D N) 4 (unless (waitsIn n s t Q U D N) 5 (unless (okSenderIn n s back t Q D N) 7 0))
+unfoldable pub messageRefusalIn : ℕ → ℕ → ℕ → Table → ℕ → ℕ → ℕ → ℕ → ℕ
+messageRefusalIn n s back t Q U D N = unless (okMessageIn n s Q U D N) 4 (unless (waitsIn n s t Q U D N) 5 (unless (okSenderIn n s back t Q D N) 7 0))
 
 -- with this refusal, 0 for none: what a delivery answers, and the table that a call leaves
 abbrev pub answerBy : ℕ → ℕ → Delivered
@@ -88,12 +88,12 @@ module _ (net : Network) (t : Table) where
     abbrev pub okSender : Bool
     okSender = okSenderIn (net .n) (stacks net) (link net U Q) t Q D N
 
-    abbrev pub stepRefusal : ℕ
-    stepRefusal = stepRefusalIn (net .n) (stacks net) (link net U Q) t Q U D N
+    abbrev pub messageRefusal : ℕ
+    messageRefusal = messageRefusalIn (net .n) (stacks net) (link net U Q) t Q U D N
 
     -- all of deliver's refusals, its answer and the table after it
     unfoldable pub deliverRefusal : ℕ
-    deliverRefusal = cond (eqb refusal 0) stepRefusal refusal
+    deliverRefusal = cond (eqb refusal 0) messageRefusal refusal
 
     abbrev pub deliverAnswer : Delivered
     deliverAnswer = answerBy deliverRefusal (offersTaken net t Q U D N)

@@ -7,7 +7,7 @@ use Rattle.words.specs.Words.{firstIn}
 use Rattle.words.specs.declared.Found.{Found}
 use Rattle.network.specs.Network.{Network}
 use Rattle.table.specs.Table.{Table, nodeAt, destinationAt, numberAt, delivered, offersTaken}
-use Rattle.table.specs.Answers.{refusal, stepRefusal}
+use Rattle.table.specs.Answers.{refusal, messageRefusal}
 use Rattle.table.specs.declared.Ran.{Ran}
 
 -- deliveries done, offers that rows took, the refusal that ended the run or 0, and the table then
@@ -37,7 +37,7 @@ module _ (net : Network) where
   -- the count of deliveries it made, keeps those, and the refused one changes nothing".
   abbrev pub delivering : (Table → RunOutcome) → Table → ℕ → ℕ → ℕ → ℕ → RunOutcome
   delivering rest t Q U D N =
-      cond (eqb (stepRefusal net t Q U D N) 0) (oneMore (offersTaken net t Q U D N) (rest (delivered net t Q U D N))) (ends (stepRefusal net t Q U D N) t)
+      cond (eqb (messageRefusal net t Q U D N) 0) (oneMore (offersTaken net t Q U D N) (rest (delivered net t Q U D N))) (ends (messageRefusal net t Q U D N) t)
 
   -- one turn at what the search found
   abbrev pub turn : (Table → RunOutcome) → Table → Found → RunOutcome
