@@ -1,14 +1,14 @@
 -- THE LAWS of hearing that the crates above cite: who leads where, and what the rows hold afterwards.
-use Prim.Native.Nat.{ℕ, zero, suc, _+_, _/_, _%_, _≤_, _<_}
+use Prim.Native.Nat.{ℕ, zero, suc, _+_, _/_, _%_, _<_}
 use native.Mathlib.Decide.{decLt}
 use native.Mathlib.Omega.{arith}
 use mathlib.Core.Path.{_≡_, refl, sym, ap, ap₂, _∙_}
 use mathlib.Core.Logic.{by-cases}
 use mathlib.Core.List.{List}
-use mathlib.Core.Bool.{Bool, true, false, cond, _&&_}
+use mathlib.Core.Bool.{Bool, true, cond, _&&_}
 use lib.ListN.{length, getD}
 use lib.Dec.{ltb, eqb}
-use borrow.Author.Tests.{lt-ltb, le-ltb, eq-eqb, ne-eqb}
+use borrow.Author.Tests.{le-ltb}
 use Rattle.lists.specs.Lists.{firstFrom, firstBelow}
 use Rattle.lists.proofs.Tests.{bool-cases}
 use Rattle.lists.proofs.Tables.{length-tabulate, getD-tabulate, tabulate-same}
@@ -17,7 +17,6 @@ use Rattle.relax.specs.Graph.{wins}
 use Rattle.functions.specs.Answers.{movedOf}
 use Rattle.functions.specs.declared.After.the-variants.{Number}
 use Rattle.hear.specs.Hearing.{Gateway, Message, Rows, leadsBy, leader, leaderAt, offer, takes, costAt, wayAt, waitingAt, heard, taken}
-use Rattle.hear.specs.Answers.{ceiling}
 use Rattle.hear.proofs.Leaders.{leader-found, leader-only}
 use Rattle.hear.proofs.Below.{rows-eq, takes-says}
 
@@ -59,28 +58,6 @@ module _ (g : Gateway) (m : Message) where
   takes-facts costs j e =
       let t = takes-says g m costs j e in
       (t .there, t .led, t .less)
-
-  pub takes-where : (costs : List ℕ) (j : ℕ) → j / g .most ≡ m .destination → leaderAt g m j < 192 → offer g m (leaderAt g m j) < getD costs j 0 → takes g m costs j ≡ true
-  unfolding takes wins
-  takes-where costs j here low less =
-      simp (eq-eqb (j / g .most) (m .destination) here, lt-ltb (leaderAt g m j) 192 low, lt-ltb (offer g m (leaderAt g m j)) (getD costs j 0) less)
-
-  -- A row of another destination takes no offer and stays.
-  pub takes-other : (costs : List ℕ) (j : ℕ) → (j / g .most ≡ m .destination → ⊥) → takes g m costs j ≡ false
-  unfolding takes
-  takes-other costs j other = simp (ne-eqb (j / g .most) (m .destination) other)
-
-  pub heard-other : (r : Rows) (j : ℕ) → (j / g .most ≡ m .destination → ⊥)
-      → (costAt g m r j ≡ getD (r .costs) j 0) × (wayAt g m r j ≡ getD (r .ways) j 0) × (waitingAt g m r j ≡ getD (r .waiting) j 0)
-  unfolding costAt wayAt waitingAt
-  heard-other r j other =
-      let e = takes-other (r .costs) j other in
-      (simp e, simp e, simp e)
-
-  -- No offer reaches "no row".
-  pub offer-fits : (f : ℕ) → m .cost ≤ ceiling → m .link < 65536 → g .words f < 65536 → offer g m f < 4294967295
-  unfolding offer
-  offer-fits f cost link word = omega arith
 
 -- ---- gateways that agree hear alike
 pub record Alike (g h : Gateway) : Type 0 where
