@@ -13,22 +13,12 @@ use functions::After;
 fn good_place(n: usize, stacks: usize, node: usize, destination: usize, number: usize) -> bool
     ensures { λ r. ⌜ r ≡ okPlace n stacks node destination number ⌝ }
 {
-    if 32 < n {
-        return false;
-    }
-    if 16384 < stacks {
-        return false;
-    }
-    if n <= node {
-        return false;
-    }
-    if n <= destination {
-        return false;
-    }
-    if number < 1 {
-        return false;
-    }
-    number <= stacks
+    (n <= 32)
+        & (stacks <= 16384)
+        & (node < n)
+        & (destination < n)
+        & (1 <= number)
+        & (number <= stacks)
 }
 
 // Whether a packet is delivered at the node: it is the destination and accepts the one protocol of the stack.
