@@ -1,7 +1,7 @@
 -- What the link grid holds at each test of the code, and what an entry that is not 0 tells.
 use Prim.Native.Nat.{ℕ, _+_, _*_, _≤_, _<_}
 use native.Mathlib.Omega.{arith}
-use mathlib.Core.Path.{_≡_, refl}
+use mathlib.Core.Path.{_≡_, refl, sym, _∙_}
 use mathlib.Core.List.{List}
 use mathlib.Core.Bool.{Bool, true, false, cond, _&&_, and-false}
 use lib.ListN.{getD}
@@ -38,8 +38,35 @@ pub cond-most : (t : Bool) (x m : ℕ) → x ≤ m → cond t x 0 ≤ m
 cond-most true x m h = h
 cond-most false x m h = omega arith
 
+-- ---- the code's test of two nodes at once
+module _ (n U W : ℕ) where
+  abbrev pub twoNodes : Bool
+  twoNodes = (leb n 32 && ltb U n) && ltb W n
+
+  pub two-nodes : twoNodes ≡ (isNode n U && isNode n W)
+  unfolding isNode
+  two-nodes = go (leb n 32) (ltb U n) (ltb W n)
+    where
+      go : (a b c : Bool) → ((a && b) && c) ≡ ((a && b) && (a && c))
+      go true b c = refl
+      go false b c = refl
+
+  pub two-say : twoNodes ≡ true → (n ≤ 32) × (U < n) × (W < n)
+  two-say e =
+      let a = both (leb n 32 && ltb U n) (ltb W n) e in
+      let b = both (leb n 32) (ltb U n) (a .0) in
+      (leb-true n 32 (b .0), ltb-true U n (b .1), ltb-true W n (a .1))
+
 -- ---- links
 module _ (n : ℕ) (links : List ℕ) (U W : ℕ) where
+  pub link-none : twoNodes n U W ≡ false → linkAt n links U W ≡ 0
+  unfolding linkAt
+  link-none e = rw (sym (two-nodes n U W) ∙ e) refl
+
+  pub link-there : twoNodes n U W ≡ true → linkAt n links U W ≡ getD links (U * n + W) 0
+  unfolding linkAt
+  link-there e = rw (sym (two-nodes n U W) ∙ e) refl
+
   pub link-from-none : isNode n U ≡ false → linkAt n links U W ≡ 0
   unfolding linkAt
   link-from-none e = simp e

@@ -1,15 +1,15 @@
 -- What `check` answers at each of its tests, over plain variables.
-use Prim.Native.Nat.{ℕ, _*_, _≤_, _<_}
+use Prim.Native.Nat.{ℕ, _*_, _≤_}
 use native.Mathlib.Omega.{arith}
-use mathlib.Core.Path.{_≡_, _∙_, subst}
+use mathlib.Core.Path.{_≡_, ap, ap₂, _∙_, subst}
 use mathlib.Core.List.{[], _∷_}
-use mathlib.Core.Bool.{true, false}
+use mathlib.Core.Bool.{Bool, true, false, _&&_, and-assoc}
 use lib.ListN.{length}
-use lib.Dec.{eqb}
-use borrow.Author.Tests.{le-leb, lt-leb, eq-eqb, ne-eqb}
+use lib.Dec.{leb, eqb}
+use borrow.Author.Tests.{leb-true, eqb-true}
 use types.Run.{OneOf}
 use denote.Enum.Declared.{tagOf}
-use Rattle.lists.proofs.Tests.{bool-cases}
+use Rattle.lists.proofs.Tests.{bool-cases, both}
 use Rattle.stacks.specs.Stacks.{okSize, count}
 use Rattle.stacks.specs.Answers.{countOf}
 use Rattle.stacks.specs.declared.Answer.{Answer}
@@ -17,7 +17,7 @@ use Rattle.stacks.proofs.Answer.{the-type}
 use Rattle.stacks.proofs.Outcomes.{counted}
 use Rattle.stacks.proofs.Tests.{sizes}
 use Rattle.stacks.proofs.Count.{count-fits}
-use Rattle.network.specs.Network.{Network, okSizes, okLinks, refusalOf}
+use Rattle.network.specs.Network.{Network, stacks, okSizes, okLinks, refusalOf}
 use Rattle.network.specs.Answers.{checkedOf}
 use Rattle.network.specs.declared.Checked.{Checked}
 
@@ -51,64 +51,47 @@ module _ (net : Network) where
   unfolding refusalOf
   refused e = simp e
 
-  pub no-nodes : net .n < 1 → Checked.Refused 1 ≡ checkedOf net
+  -- the tests of the sizes, as the code groups them: those of n, that of p and h, and, with m stacks, those of the products
+  abbrev pub okNodes : Bool
+  okNodes = leb 1 (net .n) && leb (net .n) 32
+
+  abbrev pub okProducts : ℕ → Bool
+  okProducts m = (leb (net .n * m) 16384 && eqb (length (net .links)) (net .n * net .n)) && eqb (length (net .functions)) (net .n * (3 * (net .p * net .p)))
+
+  grouped : okSizes net ≡ (okNodes && (okSize (net .p) (net .h) && okProducts (stacks net)))
   unfolding okSizes
-  no-nodes none = refused (simp (lt-leb 1 (net .n) none))
+  grouped = simp and-assoc
 
-  module _ (some : 1 ≤ net .n) where
-    pub many-nodes : 32 < net .n → Checked.Refused 1 ≡ checkedOf net
-    unfolding okSizes
-    many-nodes many = refused (simp (le-leb 1 (net .n) some, lt-leb (net .n) 32 many))
+  pub few-nodes : okNodes ≡ true → net .n ≤ 32
+  few-nodes e = leb-true (net .n) 32 (both (leb 1 (net .n)) (leb (net .n) 32) e .1)
 
-    module _ (few : net .n ≤ 32) where
-      pub bad-size : okSize (net .p) (net .h) ≡ false → Checked.Refused 1 ≡ checkedOf net
-      unfolding okSizes
-      bad-size bad = refused (simp (le-leb 1 (net .n) some, le-leb (net .n) 32 few, bad))
+  pub bad-nodes : okNodes ≡ false → Checked.Refused 1 ≡ checkedOf net
+  bad-nodes bad = refused (grouped ∙ ap (λ (b : Bool). b && (okSize (net .p) (net .h) && okProducts (stacks net))) bad)
 
-      module _ (m : ℕ) (told : Counted (net .p) (net .h) m) where
-        pub no-room : 16384 < net .n * m → Checked.Refused 1 ≡ checkedOf net
-        unfolding okSizes
-        no-room more = refused (simp (le-leb 1 (net .n) some, le-leb (net .n) 32 few, told .size, told .number, lt-leb (net .n * m) 16384 more))
+  module _ (nodes : okNodes ≡ true) where
+    size-next : okSizes net ≡ (okSize (net .p) (net .h) && okProducts (stacks net))
+    size-next = grouped ∙ ap (λ (b : Bool). b && (okSize (net .p) (net .h) && okProducts (stacks net))) nodes
 
-        module _ (room : net .n * m ≤ 16384) where
-          pub links-short : (length (net .links) ≡ net .n * net .n → ⊥) → Checked.Refused 1 ≡ checkedOf net
-          unfolding okSizes
-          links-short short =
-              refused
-              (simp (
-                le-leb 1 (net .n) some,
-                le-leb (net .n) 32 few,
-                told .size,
-                told .number,
-                le-leb (net .n * m) 16384 room,
-                ne-eqb (length (net .links)) (net .n * net .n) short,
-              ))
+    pub bad-size : okSize (net .p) (net .h) ≡ false → Checked.Refused 1 ≡ checkedOf net
+    bad-size bad = refused (size-next ∙ ap (λ (b : Bool). b && okProducts (stacks net)) bad)
 
-          module _ (long : length (net .links) ≡ net .n * net .n) where
-            -- what is left of the test of the sizes: how many words the function grids have
-            sizes-left : okSizes net ≡ eqb (length (net .functions)) (net .n * (3 * (net .p * net .p)))
-            unfolding okSizes
-            sizes-left =
-                simp (
-                  le-leb 1 (net .n) some,
-                  le-leb (net .n) 32 few,
-                  told .size,
-                  told .number,
-                  le-leb (net .n * m) 16384 room,
-                  eq-eqb (length (net .links)) (net .n * net .n) long,
-                )
+    module _ (m : ℕ) (told : Counted (net .p) (net .h) m) where
+      products-next : okSizes net ≡ okProducts m
+      products-next = size-next ∙ ap₂ (λ (b : Bool) (s : ℕ). b && okProducts s) (told .size) (told .number)
 
-            pub functions-short : (length (net .functions) ≡ net .n * (3 * (net .p * net .p)) → ⊥) → Checked.Refused 1 ≡ checkedOf net
-            functions-short short = refused (sizes-left ∙ ne-eqb (length (net .functions)) (net .n * (3 * (net .p * net .p))) short)
+      pub bad-products : okProducts m ≡ false → Checked.Refused 1 ≡ checkedOf net
+      bad-products bad = refused (products-next ∙ bad)
 
-            module _ (full : length (net .functions) ≡ net .n * (3 * (net .p * net .p))) where
-              sizes-good : okSizes net ≡ true
-              sizes-good = sizes-left ∙ eq-eqb (length (net .functions)) (net .n * (3 * (net .p * net .p))) full
+      module _ (products : okProducts m ≡ true) where
+        pub links-long : length (net .links) ≡ net .n * net .n
+        links-long =
+            let a = both (leb (net .n * m) 16384 && eqb (length (net .links)) (net .n * net .n)) (eqb (length (net .functions)) (net .n * (3 * (net .p * net .p)))) products in
+            eqb-true (length (net .links)) (net .n * net .n) (both (leb (net .n * m) 16384) (eqb (length (net .links)) (net .n * net .n)) (a .0) .1)
 
-              pub bad-links : okLinks net ≡ false → Checked.Refused 2 ≡ checkedOf net
-              unfolding refusalOf
-              bad-links bad = simp (sizes-good, bad)
+        pub bad-links : okLinks net ≡ false → Checked.Refused 2 ≡ checkedOf net
+        unfolding refusalOf
+        bad-links bad = simp (products-next ∙ products, bad)
 
-              pub all-good : okLinks net ≡ true → Checked.Stacks m ≡ checkedOf net
-              unfolding refusalOf
-              all-good good = simp (sizes-good, good, told .number)
+        pub all-good : okLinks net ≡ true → Checked.Stacks m ≡ checkedOf net
+        unfolding refusalOf
+        all-good good = simp (products-next ∙ products, good, told .number)

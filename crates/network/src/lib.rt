@@ -23,13 +23,7 @@ pub fn entry(list: &[u16], at: usize) -> u16
 pub fn link_cost(n: usize, links: &[u16], u: usize, w: usize) -> u16
     ensures { λ r. ⌜ r ≡ linkAt n (now (links .entry)) u w ⌝ }
 {
-    if 32 < n {
-        return 0;
-    }
-    if n <= u {
-        return 0;
-    }
-    if n <= w {
+    if !((n <= 32) & (u < n) & (w < n)) {
         return 0;
     }
     entry(links, u * n + w)
@@ -106,23 +100,14 @@ fn good_links(n: usize, links: &[u16]) -> bool
 pub fn check(n: usize, p: usize, h: usize, links: &[u16], functions: &[u16]) -> Checked
     ensures { λ r. ⌜ r ≡ checkedOf (networkOf n p h (now (links .entry)) (now (functions .entry))) ⌝ }
 {
-    if n < 1 {
-        return Checked::Refused(1);
-    }
-    if 32 < n {
+    if !((1 <= n) & (n <= 32)) {
         return Checked::Refused(1);
     }
     let count = stacks::stack_count(p, h);
     let stacks::Answer::Value(most) = count else {
         return Checked::Refused(1);
     };
-    if 16384 < n * most {
-        return Checked::Refused(1);
-    }
-    if links.len() != n * n {
-        return Checked::Refused(1);
-    }
-    if functions.len() != n * (3 * (p * p)) {
+    if !((n * most <= 16384) & (links.len() == n * n) & (functions.len() == n * (3 * (p * p)))) {
         return Checked::Refused(1);
     }
     if good_links(n, links) {
