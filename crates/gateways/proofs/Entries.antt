@@ -1,12 +1,11 @@
--- What the function grids hold at each test of the code, and what an entry that is not 0 tells.
+-- What the function grids hold by the test of the code, and what an entry that is not 0 tells.
 use Prim.Native.Nat.{ℕ, _+_, _*_, _≤_, _<_}
-use native.Mathlib.Omega.{arith}
-use mathlib.Core.Path.{_≡_}
+use mathlib.Core.Path.{_≡_, refl, sym, _∙_}
 use mathlib.Core.List.{List}
-use mathlib.Core.Bool.{true, false, _&&_, and-false}
+use mathlib.Core.Bool.{Bool, true, false, _&&_, and-false, and-assoc}
 use lib.ListN.{getD}
 use lib.Dec.{leb, ltb}
-use borrow.Author.Tests.{ltb-true, leb-true, lt-ltb, le-ltb, le-leb, lt-leb}
+use borrow.Author.Tests.{ltb-true, leb-true, lt-leb}
 use Rattle.lists.proofs.Tests.{both}
 use Rattle.network.specs.Network.{isNode}
 use Rattle.network.proofs.Entries.{cond-some, cond-most}
@@ -20,42 +19,43 @@ pub record Placed (n p U kind a b : ℕ) : Type 0 where
   pub from : a < p
   pub to : b < p
 
-module _ (n p : ℕ) (functions : List ℕ) (U kind a b : ℕ) where
-  pub word-no-node : isNode n U ≡ false → wordAt n p functions U kind a b ≡ 0
-  unfolding wordAt
-  word-no-node e = simp e
+-- ---- the code's test of a place
+module _ (n p U kind a b : ℕ) where
+  abbrev pub isPlace : Bool
+  isPlace = ((((leb n 32 && ltb U n) && leb p 8) && ltb kind 3) && ltb a p) && ltb b p
 
-  pub word-many : 8 < p → wordAt n p functions U kind a b ≡ 0
-  unfolding wordAt
-  word-many many = simp (lt-leb p 8 many, and-false (isNode n U))
+  pub is-place : isPlace ≡ (isNode n U && (leb p 8 && (ltb kind 3 && (ltb a p && ltb b p))))
+  unfolding isNode
+  is-place = simp and-assoc
 
-  module _ (node : isNode n U ≡ true) (few : p ≤ 8) where
-    pub word-no-kind : 2 < kind → wordAt n p functions U kind a b ≡ 0
-    unfolding wordAt
-    word-no-kind none = simp (node, le-leb p 8 few, le-ltb kind 3 none)
-
-    module _ (kinds : kind ≤ 2) where
-      pub word-no-row : p ≤ a → wordAt n p functions U kind a b ≡ 0
-      unfolding wordAt
-      word-no-row none = simp (node, le-leb p 8 few, lt-ltb kind 3 (omega arith), le-ltb a p none)
-
-      pub word-no-column : a < p → p ≤ b → wordAt n p functions U kind a b ≡ 0
-      unfolding wordAt
-      word-no-column from none = simp (node, le-leb p 8 few, lt-ltb kind 3 (omega arith), lt-ltb a p from, le-ltb b p none)
-
-      pub word-entry : a < p → b < p → wordAt n p functions U kind a b ≡ getD functions (((U * 3 + kind) * p + a) * p + b) 0
-      unfolding wordAt
-      word-entry from to = simp (node, le-leb p 8 few, lt-ltb kind 3 (omega arith), lt-ltb a p from, lt-ltb b p to)
-
-  pub word-placed : ltb 0 (wordAt n p functions U kind a b) ≡ true → Placed n p U kind a b
-  unfolding wordAt
-  word-placed e =
-      let t = cond-some (isNode n U && (leb p 8 && (ltb kind 3 && (ltb a p && ltb b p)))) (getD functions (((U * 3 + kind) * p + a) * p + b) 0) e in
+  placed-by : (isNode n U && (leb p 8 && (ltb kind 3 && (ltb a p && ltb b p)))) ≡ true → Placed n p U kind a b
+  placed-by t =
       let u = both (isNode n U) (leb p 8 && (ltb kind 3 && (ltb a p && ltb b p))) t in
       let v = both (leb p 8) (ltb kind 3 && (ltb a p && ltb b p)) (u .1) in
       let w = both (ltb kind 3) (ltb a p && ltb b p) (v .1) in
       let x = both (ltb a p) (ltb b p) (w .1) in
       record { node = u .0; few = leb-true p 8 (v .0); kinds = ltb-true kind 3 (w .0); from = ltb-true a p (x .0); to = ltb-true b p (x .1) }
+
+  pub place-says : isPlace ≡ true → Placed n p U kind a b
+  place-says e = placed-by (sym is-place ∙ e)
+
+module _ (n p : ℕ) (functions : List ℕ) (U kind a b : ℕ) where
+  pub word-none : isPlace n p U kind a b ≡ false → wordAt n p functions U kind a b ≡ 0
+  unfolding wordAt
+  word-none e = rw (sym (is-place n p U kind a b) ∙ e) refl
+
+  pub word-many : 8 < p → wordAt n p functions U kind a b ≡ 0
+  unfolding wordAt
+  word-many many = simp (lt-leb p 8 many, and-false (isNode n U))
+
+  pub word-there : isPlace n p U kind a b ≡ true → wordAt n p functions U kind a b ≡ getD functions (((U * 3 + kind) * p + a) * p + b) 0
+  unfolding wordAt
+  word-there e = rw (sym (is-place n p U kind a b) ∙ e) refl
+
+  pub word-placed : ltb 0 (wordAt n p functions U kind a b) ≡ true → Placed n p U kind a b
+  unfolding wordAt
+  word-placed e =
+      placed-by n p U kind a b (cond-some (isNode n U && (leb p 8 && (ltb kind 3 && (ltb a p && ltb b p)))) (getD functions (((U * 3 + kind) * p + a) * p + b) 0) e)
 
   pub word-most : (m : ℕ) → getD functions (((U * 3 + kind) * p + a) * p + b) 0 ≤ m → wordAt n p functions U kind a b ≤ m
   unfolding wordAt

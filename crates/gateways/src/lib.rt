@@ -15,22 +15,7 @@ pub fn word_at(
 ) -> u16
     ensures { λ r. ⌜ r ≡ wordAt n p (now (functions .entry)) node kind a b ⌝ }
 {
-    if 32 < n {
-        return 0;
-    }
-    if n <= node {
-        return 0;
-    }
-    if 8 < p {
-        return 0;
-    }
-    if 2 < kind {
-        return 0;
-    }
-    if p <= a {
-        return 0;
-    }
-    if p <= b {
+    if !((n <= 32) & (node < n) & (p <= 8) & (kind < 3) & (a < p) & (b < p)) {
         return 0;
     }
     network::entry(functions, ((node * 3 + kind) * p + a) * p + b)
