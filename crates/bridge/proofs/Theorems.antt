@@ -5,6 +5,7 @@ use Rattle.network.specs.Network.{Network, Numbers16, refusalOf}
 use Rattle.bridge.specs.Bridge.{Bridged}
 use Rattle.bridge.proofs.Weights.{lawful, neighbours-few, hop-function, function-hop}
 use Rattle.bridge.proofs.Beginning.{fresh-sized, fresh-is-fresh}
+use Rattle.bridge.proofs.States.{leads-nowhere}
 use Rattle.table.proofs.Deliveries.{goes, delivered-sized}
 use Rattle.table.proofs.Refusals.{goes-through, refused-stays}
 use Rattle.bridge.proofs.Steps.{delivery-is-a-step, delivery-elsewhere}
@@ -20,6 +21,7 @@ bridged net right numbers D d = record {
   delivery-elsewhere = delivery-elsewhere net D d;
   call-delivers = goes-through net;
   refused-is-none = refused-stays net;
+  leads-nowhere = leads-nowhere net;
   hop-function = hop-function net right;
   function-hop = function-hop net right;
 }

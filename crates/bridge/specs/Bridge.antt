@@ -95,6 +95,8 @@ module _ (net : Network) where
     pub call-delivers : (t : Table) (Q U E N : ℕ) → deliverRefusal net t Q U E N ≡ 0
         → (messageRefusal net t Q U E N ≡ 0) × (deliverTable net t Q U E N ≡ delivered net t Q U E N)
     pub refused-is-none : (t : Table) (Q U E N : ℕ) → (deliverRefusal net t Q U E N ≡ 0 → ⊥) → deliverTable net t Q U E N ≡ t
+    -- a way whose function makes no stack of the row's leads to no vertex
+    pub leads-nowhere : (way N : ℕ) → numberAfter (appliedOf (net .p) (net .h) (way % 256) N) ≡ 0 → leadsTo way N ≡ rowsEach net
     -- the hops are what the specification calls hops
     pub hop-function : (u v : ℕ) → 0 < weightOf u v → (f : ℕ) × HopBy u v f
     pub function-hop : (U W f N M : ℕ) → can net U f ≡ true → present net U W ≡ true → appliedOf (net .p) (net .h) f N ≡ After.Number M

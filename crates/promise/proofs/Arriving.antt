@@ -29,7 +29,7 @@ module _ (net : Network) (ok : Network16 net) (D : ℕ) where
   -- a packet that is home has arrived
   arrives-home : (c U N : ℕ) → 1 ≤ N → home net U D N ≡ true → Arrives net D c (stop U N 0)
   arrives-home c U N some e =
-      let h = at-home net ok U D N some e in
+      let h = at-home net ok U D N e in
       record { unrefused = refl; there = h .there; header = (N - 1, h .accepted, omega (arith, number-one (net .p) (N - 1))); paid = omega arith }
 
   -- one hop more, which is paid for

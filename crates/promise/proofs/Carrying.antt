@@ -37,7 +37,7 @@ module _ (net : Network) (ok : Network16 net) (D : ℕ) (d : D < net .n) where
   home-carried : (t : Table) → Reached net t → (U c : ℕ) (stack : List ℕ) → Packet net U D stack → home net U D (number (net .p) stack) ≡ true → Carried net D t U stack c
   home-carried t r U c stack k e =
       let N = number (net .p) stack in
-      let h = at-home net ok U D N (numbered net ok stack (k .stack-ok) .some) e in
+      let h = at-home net ok U D N e in
       let one : (N - 1) ∷ [] ≡ stack = sym (h .one) ∙ stack-of-number (net .p) (net .h) (valid net (ok .valid) .size) stack (k .stack-ok) in
       let looked = looks-home net ok t r U D stack k e in
       subst (λ (s : List ℕ). Carried net D t U s c) one

@@ -45,12 +45,14 @@ module _ (net : Network) (ok : Network16 net) where
     pub one : stackOf (net .p) (net .h) N ≡ (N - 1) ∷ []
     pub accepted : accepts net D (N - 1) ≡ true
 
-  pub at-home : (U D N : ℕ) → 1 ≤ N → home net U D N ≡ true → Home U D N
+  pub at-home : (U D N : ℕ) → home net U D N ≡ true → Home U D N
   unfolding home accepts
-  at-home U D N some e =
+  at-home U D N e =
       let a = both (eqb U D) (oneTo (net .p) N && accepts net D (N - 1)) e in
       let b = both (oneTo (net .p) N) (accepts net D (N - 1)) (a .1) in
-      let low : N - 1 < net .p = omega (arith, leb-true N (net .p) (both (leb 1 N) (leb N (net .p)) (b .0) .1)) in
+      let one-to = both (leb 1 N) (leb N (net .p)) (b .0) in
+      let some = leb-true 1 N (one-to .0) in
+      let low : N - 1 < net .p = omega (arith, leb-true N (net .p) (one-to .1)) in
       let number-is : number (net .p) ((N - 1) ∷ []) ≡ N = omega (arith, number-one (net .p) (N - 1)) in
       record {
         there = eqb-true U D (a .0);

@@ -71,7 +71,7 @@ module _ (net : Network) (ok : Network16 net) (D : ℕ) (d : D < net .n) where
 
   home-route : (v : ℕ) → homeOf net D v ≡ true → Route net D (vertexNode net v) (stackAt v) 0
   home-route v e =
-      let h = at-home net ok (vertexNode net v) D (vertexNumber net v) (omega arith) (home-test v e) in
+      let h = at-home net ok (vertexNode net v) D (vertexNumber net v) (home-test v e) in
       subst (λ (s : List ℕ). Route net D (vertexNode net v) s 0) (sym (h .one))
       (subst (λ (X : ℕ). Route net D X ((vertexNumber net v - 1) ∷ []) 0) (sym (h .there)) (arrived (vertexNumber net v - 1) (h .accepted)))
 

@@ -50,7 +50,7 @@ module _ (net : Network) (ok : Network16 net) where
   home-here : (U D : ℕ) (stack : List ℕ) → Packet net U D stack → home net U D (number (net .p) stack) ≡ true → Route net D U stack 0
   home-here U D stack k e =
       let N = number (net .p) stack in
-      let h = at-home net ok U D N (numbered net ok stack (k .stack-ok) .some) e in
+      let h = at-home net ok U D N e in
       let one : (N - 1) ∷ [] ≡ stack = sym (h .one) ∙ stack-of-number (net .p) (net .h) (valid net (ok .valid) .size) stack (k .stack-ok) in
       subst (λ (s : List ℕ). Route net D U s 0) one
       (subst (λ (X : ℕ). Route net D X ((N - 1) ∷ []) 0) (sym (h .there)) (arrived (N - 1) (h .accepted)))

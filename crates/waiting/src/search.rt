@@ -29,7 +29,7 @@ pub(crate) fn search(nodes: usize, rows: usize, waiting: &[u32]) -> Found
                 }
                 bit += 1;
             }
-            row += 1;
+            row += 1; // not reached: a word that is not 0 has a set bit
         }
         node += 1;
     }
