@@ -29,7 +29,7 @@ use Rattle.forward.specs.Answers.{lookupOf}
 use Rattle.forward.specs.declared.Look.{Look}
 use Rattle.promise.specs.Routes.{Network16, Route, Reached, Quiet, arrived, hop}
 use Rattle.promise.proofs.Reaching.{sized, reached-refusal}
-use Rattle.promise.proofs.Looking.{Packet, packet, packet-ok, numbered, looks-home, looks-on}
+use Rattle.promise.proofs.Looking.{Packet, packet, packet-ok, looks-home, looks-on}
 use Rattle.promise.proofs.Homes.{one-ok, one-home, at-home}
 use Rattle.promise.proofs.Silence.{words-none}
 use Rattle.promise.proofs.Fitting.{words-fit, nowhere-quiet}
