@@ -1,4 +1,6 @@
 // A waiting word: bit v is set where a message about the word's row waits for neighbour v. Every function is total.
+#![tactic(auto)]
+
 ghost use Rattle.std.specs.Prelude.{◌≡◌};
 ghost use Rattle.bits.specs.Bits.{has, without, with_all, with_one, lowest, ones_of};
 

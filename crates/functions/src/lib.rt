@@ -1,4 +1,6 @@
 // The functions on stacks: convert, wrap and unwrap, by the numbers of stacks. Every public function takes any input; its contract is an equation in specs/Answers.antt.
+#![tactic(auto)]
+
 ghost use Rattle.std.specs.Prelude.{◌≡◌, ◌&&◌, ◌≤◌, ◌<◌, leb};
 ghost use Rattle.functions.specs.Functions.{ok_function, inverse};
 ghost use Rattle.functions.specs.Answers.{applied_of, move_number, moved_of, inverse_of};

@@ -1,4 +1,6 @@
 // What each gateway can do to a packet. Every public function takes any input; its contract is an equation with a definition of specs/.
+#![tactic(auto)]
+
 ghost use Rattle.std.specs.Prelude.{◌≡◌};
 ghost use Rattle.lists.specs.Lists.{tabulate};
 ghost use Rattle.gateways.specs.Gateways.{word_at, receives_at, grid_of};

@@ -1,4 +1,6 @@
 // Judges one header of a packet. The public function takes any input; its contract is an equation in specs/Answers.antt.
+#![tactic(auto)]
+
 ghost use Rattle.std.specs.Prelude.{◌≡◌};
 ghost use Rattle.header.specs.Answers.{header_of};
 

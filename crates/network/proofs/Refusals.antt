@@ -1,19 +1,15 @@
 -- What `check` answers at each of its tests, over plain variables.
 use Prim.Native.Nat.{ℕ, ◌*◌, ◌≤◌}
 use native.Mathlib.Omega.{arith}
-use mathlib.Core.Path.{◌≡◌, ap, ap₂, ◌∙◌, subst}
-use mathlib.Core.List.{[], ◌∷◌}
+use mathlib.Core.Path.{◌≡◌, ap, ap₂, ◌∙◌}
 use mathlib.Core.Bool.{Bool, true, false, ◌&&◌, and_assoc}
 use lib.ListN.{length}
 use lib.Dec.{leb, eqb}
 use borrow.Author.Tests.{leb-true, eqb-true}
-use types.Run.{OneOf}
-use denote.Enum.Declared.{tag_of}
 use Rattle.lists.proofs.Tests.{bool_cases, both}
 use Rattle.stacks.specs.Stacks.{ok_size, count}
 use Rattle.stacks.specs.Answers.{count_of}
 use Rattle.stacks.specs.declared.Answer.{Answer}
-use Rattle.stacks.specs.contracts.Answer.{the_type}
 use Rattle.stacks.proofs.Outcomes.{counted}
 use Rattle.stacks.proofs.Tests.{sizes}
 use Rattle.stacks.proofs.Count.{count_fits}
@@ -36,14 +32,8 @@ told_count p h m e =
     record { size = t.0; number = t.1; low = z.few; small = omega (arith, t.1, count_fits p h z.few z.low) }
 
 -- an answer that is no number
-pub not_counted : (p h : ℕ) (r : Answer) → r ≡ count_of p h → OneOf (1 ∷ []) (tag_of the_type r) → ok_size p h ≡ false
-not_counted p h r e told = bool_cases (ok_size p h)
-    (λ ok. let v : r ≡ Answer.Value (count p h) = e ∙ simp ok in
-    absurd (no_value (subst (λ (x : Answer). OneOf (1 ∷ []) (tag_of the_type x)) v told)))
-    (λ bad. bad)
-  where
-    no_value : ◌≡◌ {A = ℕ} 0 1 → ⊥
-    no_value z = omega arith
+pub not_counted : (p h : ℕ) (r : Answer) → r ≡ count_of p h → ((x : ℕ) → r ≡ Answer.Value x → ⊥) → ok_size p h ≡ false
+not_counted p h r e none = bool_cases (ok_size p h) (λ ok. absurd (none (count p h) (e ∙ simp ok))) (λ bad. bad)
 
 -- ---- the answer at each test
 module _ (net : Network) where

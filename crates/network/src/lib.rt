@@ -1,4 +1,6 @@
 // The network that a call is handed. Every public function takes any input; its contract is an equation with a definition of specs/.
+#![tactic(auto)]
+
 ghost use Rattle.std.specs.Prelude.{◌≡◌, ◌*◌, ◌≤◌, ◌<◌, length, get_or};
 ghost use Rattle.network.specs.Network.{network_of, link_at, neighbours_at};
 ghost use Rattle.network.specs.Answers.{checked_of};

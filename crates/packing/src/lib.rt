@@ -1,4 +1,6 @@
 // How a refusal is packed into one number for a C caller, as specs/Packing.antt says; the crates that export calls share it.
+#![tactic(auto)]
+
 ghost use Rattle.std.specs.Prelude.{◌≡◌};
 ghost use Rattle.packing.specs.Packing.{pack_end, pack_refused};
 

@@ -1,5 +1,6 @@
 // Reads one raw packet from standard input; prints its stack of headers from the bottom up, the stack's number and the length of the innermost
 // part, or the refusal in words.
+#![tactic(auto)]
 ghost use Rattle.std.specs.Prelude.{◌≡◌, ◌≤◌, length};
 
 use headers::Read;

@@ -38,7 +38,7 @@ module _ (g : Graph) where
   left_hop l away f = left_on refl l.on away f l.hops l.spent
 
   -- a packet makes no more hops than it spends, spends no more than c, and is carried on from where it is
-  pub trip : {s t : State} {v u c n k : ℕ} → Carried g s v c → Trip g s v t u n k → Left g t u n k c
+  pub trip : {s : State} {v : ℕ} {t : State} {u c n k : ℕ} → Carried g s v c → Trip g s v t u n k → Left g t u n k c
   trip {s = s} {v = v} {c = c} p begin =
       let all : c ≡ c - 0 = omega arith in
       record { hops = omega arith; spent = omega arith; on = subst (Carried g s v) all p }

@@ -1,4 +1,5 @@
 // The small network of the specification: run to quiet, then each row that has a cost, then how many messages wait.
+#![tactic(auto)]
 use libc::STDOUT_FILENO;
 use stacks::Answer;
 use table::Counted;

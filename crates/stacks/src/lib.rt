@@ -1,4 +1,6 @@
 // Stacks of protocols and their numbers. Every public function takes any input; its contract is an equation in specs/Answers.antt.
+#![tactic(auto)]
+
 ghost use Rattle.std.specs.Prelude.{◌≡◌, ◌++◌, ◌+◌, ◌*◌, ◌≤◌, ◌<◌, length, drop};
 ghost use Rattle.stacks.specs.Stacks.{ok_size, count, height, stack_of};
 ghost use Rattle.stacks.specs.Answers.{count_of, number_of, height_of, out_of};

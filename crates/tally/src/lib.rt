@@ -1,4 +1,5 @@
 // The tally of deliver and run. It is worked out by value; one thin function brings the caller's record up to date in place.
+#![tactic(auto)]
 ghost use Rattle.std.specs.Prelude.{◌≡◌, ◌+◌};
 ghost use Rattle.tally.specs.Tally.{added_to, after_delivery, after_run, calls_refused, capped};
 

@@ -1,4 +1,6 @@
 // A slice of waiting words: its count of set bits, and the first set bit of a part of it. Every public function is total.
+#![tactic(auto)]
+
 ghost use Rattle.std.specs.Prelude.{◌≡◌, min, ◌≤◌, length};
 ghost use Rattle.words.specs.Words.{ones_answer, first_between};
 
