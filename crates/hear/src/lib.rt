@@ -1,5 +1,6 @@
 // A gateway hears a message: each row from which a function leads to the stack heard of gets an offer. Total; the contract is in specs/Answers.antt.
 #![tactic(auto)]
+
 ghost use Rattle.std.specs.Prelude.{◌≡◌};
 ghost use Rattle.hear.specs.Answers.{gateway_of, message_of, rows_of, refused_by, Hears};
 ghost use Rattle.hear.specs.Steps.{candidate_of, offer_of, Parted, Priced};

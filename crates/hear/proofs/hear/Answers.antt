@@ -1,0 +1,156 @@
+-- `hear::hear` meets its contract: a refusal, or the loop, whose invariant is that the first i candidates have made their offers.
+use Prim.Native.Nat.{◌-◌}
+use mathlib.Core.Path.{refl}
+use mathlib.Core.List.{[], ◌∷◌}
+use native.Mathlib.Omega.{arith}
+use Rattle.hear.specs.Answers.{gateway_of, message_of, rows_of}
+use Rattle.hear.specs.Steps.{Turn}
+use Rattle.hear.proofs.Answers.{refuses}
+use Rattle.hear.proofs.Loop.{Heeds, starts, ends, its_turn, Offers, near_4, near_2, next_fits, counts_fit, nearer, inside, inside_ways, inside_waiting, stays, gains, Small, small, offered}
+use Rattle.hear.proofs.hear.Goals as goal
+use Rattle.hear.proofs.hear.Goals.{After-candidate_of-candidate, After-offer_of-offer, Else-refusal-ne0, In-loop-i}
+
+-- the candidate in turn, and its offer
+turned : (c : In-loop-i) → let a = c.args in Turn a.p a.number c.loop-i.i
+turned c = its_turn _ _ _ _ _ _ c.loop-i.invariant c.loop-i-test.true
+
+parts : (c : After-candidate_of-candidate) → Small c.candidate_of-candidate.result
+parts c =
+    let a = c.args in
+    small a.p a.number c.loop-i.i c.candidate_of-candidate.result (turned c.before) c.candidate_of-candidate.ensures
+
+offers : (c : After-offer_of-offer) → let a = c.args in let l = c.loop-i in
+    Offers (gateway_of a.p a.most a.neighbours a.convert a.wrap a.unwrap) (message_of a.sender a.destination a.number a.cost a.link)
+    (rows_of a.costs.now a.ways.now a.waiting.now) (rows_of l.costs l.ways l.waiting) l.i l.count c.offer_of-offer.result
+offers c =
+    let l = c.loop-i in
+    let a = c.args in
+    let m = message_of a.sender a.destination a.number a.cost a.link in
+    record {
+      heeds = l.invariant;
+      low = c.loop-i-test.true;
+      is = offered a.p a.most a.neighbours (a.convert ∷ a.wrap ∷ a.unwrap ∷ []) m l.i c.candidate_of-candidate.result c.offer_of-offer.result
+          (its_turn _ _ _ _ _ _ c.loop-i.invariant c.loop-i-test.true) c.candidate_of-candidate.ensures c.offer_of-offer.ensures;
+    }
+
+pub returns-then-refusal-ne0 : goal.returns-then-refusal-ne0
+returns-then-refusal-ne0 c =
+    let a = c.args in
+    let g = gateway_of a.p a.most a.neighbours a.convert a.wrap a.unwrap in
+    let m = message_of a.sender a.destination a.number a.cost a.link in
+    let q = rows_of a.costs.now a.ways.now a.waiting.now in
+    refuses g m q c.refusal_of-refusal.result c.refusal_of-refusal.ensures c.if-refusal-ne0.true
+
+-- nothing is refused
+begins : (c : Else-refusal-ne0) → let a = c.args in let q = rows_of a.costs.now a.ways.now a.waiting.now in
+    Heeds (gateway_of a.p a.most a.neighbours a.convert a.wrap a.unwrap) (message_of a.sender a.destination a.number a.cost a.link) q q 0 0
+begins c = starts _ _ _ c.refusal_of-refusal.result c.refusal_of-refusal.ensures c.if-refusal-ne0.false
+
+pub overflow_sub-top : goal.overflow_sub-top
+overflow_sub-top c = (begins (goal.at.overflow_sub-top c).Else-refusal-ne0).passes.numbers_good.numbered
+
+pub nonzero_rem-top : goal.nonzero_rem-top
+nonzero_rem-top c = (begins (goal.at.nonzero_rem-top c).Else-refusal-ne0).passes.numbers_good.some
+
+pub overflow_sub-rest : goal.overflow_sub-rest
+overflow_sub-rest c = (begins (goal.at.overflow_sub-rest c).Else-refusal-ne0).passes.numbers_good.numbered
+
+pub nonzero_div-rest : goal.nonzero_div-rest
+nonzero_div-rest c = (begins (goal.at.nonzero_div-rest c).Else-refusal-ne0).passes.numbers_good.some
+
+pub loop-i-init : goal.loop-i-init
+loop-i-init c = begins (goal.at.loop-i-init c).Else-refusal-ne0
+
+pub overflow_mul-p : goal.overflow_mul-p
+overflow_mul-p c = omega (arith, c.loop-i.invariant.passes.numbers_good.few)
+
+pub overflow_add-p : goal.overflow_add-p
+overflow_add-p c = omega (arith, c.loop-i.invariant.passes.numbers_good.few)
+
+pub candidate_of-candidate-requires : goal.candidate_of-candidate-requires
+candidate_of-candidate-requires c = record { turns = turned (goal.at.candidate_of-candidate-requires c).In-loop-i; tops = refl; rests = refl }
+
+pub offset_bounds-grids-kind : goal.offset_bounds-grids-kind
+offset_bounds-grids-kind c = omega (arith, parts (goal.at.offset_bounds-grids-kind c).After-candidate_of-candidate)
+
+pub offset_bounds-grids-a : goal.offset_bounds-grids-a
+offset_bounds-grids-a c = omega (arith, parts (goal.at.offset_bounds-grids-a c).After-candidate_of-candidate)
+
+pub offset_bounds-grids-b : goal.offset_bounds-grids-b
+offset_bounds-grids-b c = omega (arith, parts (goal.at.offset_bounds-grids-b c).After-candidate_of-candidate)
+
+pub bounds-grids-kind : goal.bounds-grids-kind
+bounds-grids-kind c = (parts (goal.at.bounds-grids-kind c).After-candidate_of-candidate).kinds
+
+pub bounds-grids-a : goal.bounds-grids-a
+bounds-grids-a c = (parts (goal.at.bounds-grids-a c).After-candidate_of-candidate).firsts
+
+pub bounds-grids-b : goal.bounds-grids-b
+bounds-grids-b c = (parts (goal.at.bounds-grids-b c).After-candidate_of-candidate).seconds
+
+pub offer_of-offer-requires : goal.offer_of-offer-requires
+offer_of-offer-requires c =
+    let d = parts (goal.at.offer_of-offer-requires c).After-candidate_of-candidate in
+    let h = c.loop-i.invariant.passes in
+    record {
+      bounded = h.numbers_good.bounded;
+      sends = h.numbers_good.sends;
+      known = h.numbers_good.known;
+      priced = h.lengths_good.priced;
+      kinds = d.kinds;
+      firsts = d.firsts;
+      seconds = d.seconds;
+    }
+
+pub overflow_add-i : goal.overflow_add-i
+overflow_add-i c = next_fits (offers (goal.at.overflow_add-i c).After-offer_of-offer)
+
+pub offset_bounds-costs-place : goal.offset_bounds-costs-place
+offset_bounds-costs-place c = near_4 (offers (goal.at.offset_bounds-costs-place c).After-offer_of-offer)
+
+pub bounds-costs-place : goal.bounds-costs-place
+bounds-costs-place c = inside (offers (goal.at.bounds-costs-place c).After-offer_of-offer)
+
+pub loop-i-smaller-then-costs-place : goal.loop-i-smaller-then-costs-place
+loop-i-smaller-then-costs-place c = nearer (offers (goal.at.loop-i-smaller-then-costs-place c).After-offer_of-offer)
+
+pub loop-i-preserved-then-costs-place : goal.loop-i-preserved-then-costs-place
+loop-i-preserved-then-costs-place c = stays (offers (goal.at.loop-i-preserved-then-costs-place c).After-offer_of-offer) c.if-costs-place.true
+
+pub offset_bounds-costs-place-in-loop-i : goal.offset_bounds-costs-place-in-loop-i
+offset_bounds-costs-place-in-loop-i c = near_4 (offers (goal.at.offset_bounds-costs-place-in-loop-i c).After-offer_of-offer)
+
+pub bounds-costs-place-in-loop-i : goal.bounds-costs-place-in-loop-i
+bounds-costs-place-in-loop-i c = inside (offers (goal.at.bounds-costs-place-in-loop-i c).After-offer_of-offer)
+
+pub offset_bounds-ways-place : goal.offset_bounds-ways-place
+offset_bounds-ways-place c = near_2 (offers (goal.at.offset_bounds-ways-place c).After-offer_of-offer)
+
+pub bounds-ways-place : goal.bounds-ways-place
+bounds-ways-place c = inside_ways (offers (goal.at.bounds-ways-place c).After-offer_of-offer)
+
+pub offset_bounds-waiting-place : goal.offset_bounds-waiting-place
+offset_bounds-waiting-place c = near_4 (offers (goal.at.offset_bounds-waiting-place c).After-offer_of-offer)
+
+pub bounds-waiting-place : goal.bounds-waiting-place
+bounds-waiting-place c = inside_waiting (offers (goal.at.bounds-waiting-place c).After-offer_of-offer)
+
+pub offset_bounds-waiting-place-in-loop-i : goal.offset_bounds-waiting-place-in-loop-i
+offset_bounds-waiting-place-in-loop-i c = near_4 (offers (goal.at.offset_bounds-waiting-place-in-loop-i c).After-offer_of-offer)
+
+pub bounds-waiting-place-in-loop-i : goal.bounds-waiting-place-in-loop-i
+bounds-waiting-place-in-loop-i c = inside_waiting (offers (goal.at.bounds-waiting-place-in-loop-i c).After-offer_of-offer)
+
+pub loop-i-smaller : goal.loop-i-smaller
+loop-i-smaller c = nearer (offers (goal.at.loop-i-smaller c).After-offer_of-offer)
+
+pub loop-i-preserved : goal.loop-i-preserved
+loop-i-preserved c =
+    gains (offers (goal.at.loop-i-preserved c).After-offer_of-offer) c.with_all.result c.with_all.ensures c.if-costs-place.false
+    (c.slice_known-in-loop-i-1.given c.offer_of-offer.result.place).fits
+
+pub overflow_add-count : goal.overflow_add-count
+overflow_add-count c = counts_fit (offers (goal.at.overflow_add-count c).After-offer_of-offer)
+
+pub returns : goal.returns
+returns c = ends _ _ _ _ _ _ c.loop-i.invariant c.loop-i-test.false

@@ -1,0 +1,15 @@
+use Prim.Native.Nat.{◌+◌, ◌-◌, ◌*◌}
+use mathlib.Core.List.{[]}
+use lib.ListN.{get_or}
+use Rattle.hear.specs.Answers.{gateway_of, message_of, rows_of}
+use Rattle.hear.proofs.Loop.{Heeds}
+use Rattle.hear.proofs.hear.Given as goal
+
+abbrev pub invariant-loop-i : goal.invariant-loop-i
+invariant-loop-i l =
+    Heeds (gateway_of l.p l.most l.neighbours (get_or l.grids 0 []) (get_or l.grids 1 []) (get_or l.grids 2 [])) (message_of l.sender l.destination l.number l.cost l.link)
+    (rows_of l.initial.costs l.initial.ways l.initial.waiting) (rows_of l.costs l.ways l.waiting) l.i l.count
+
+abbrev pub decreases-loop-i : goal.decreases-loop-i
+decreases-loop-i l =
+    2 * l.p + 1 - l.i
