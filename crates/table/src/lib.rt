@@ -1,5 +1,6 @@
 // The routing table: the answers of its calls, and the tests that every call makes first. specs/ says what a table is and what each call does to it.
 #![tactic(auto)]
+
 pub mod ready;
 
 // How many messages wait, or the refusal's number.
