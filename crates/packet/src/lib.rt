@@ -1,5 +1,6 @@
 // What lookup and carry test first: the network, the table's lengths, the two nodes and the stack. Total: the contract is an equation of specs/Packet.antt.
 #![tactic(auto)]
+
 ghost use Rattle.std.specs.Prelude.{◌≡◌};
 ghost use Rattle.network.specs.Network.{network_of};
 ghost use Rattle.table.specs.Table.{table_of};

@@ -1,5 +1,6 @@
 // One delivery to a gateway that is handed over as numbers and grids. Total: the contract is an equation with definitions of specs/Step.antt.
 #![tactic(auto)]
+
 ghost use Rattle.std.specs.Prelude.{◌≡◌, ◌<◌, length, get_or};
 ghost use Rattle.hear.specs.Answers.{gateway_of};
 ghost use Rattle.table.specs.Table.{table_of};

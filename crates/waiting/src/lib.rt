@@ -1,5 +1,6 @@
 // The calls count and first waiting. Total: the contracts are equations with definitions of crate table.
 #![tactic(auto)]
+
 ghost use Rattle.std.specs.Prelude.{◌≡◌};
 ghost use Rattle.network.specs.Network.{network_of};
 ghost use Rattle.table.specs.Table.{table_of};

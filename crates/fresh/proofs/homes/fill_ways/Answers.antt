@@ -1,0 +1,24 @@
+-- `fresh::homes::fill_ways` meets its contract. The invariant: the elements before i are filled.
+use Prim.Native.Nat.{ℕ, ◌-◌}
+use native.Mathlib.Omega.{arith}
+use mathlib.Core.Path.{◌≡◌, refl, ◌∙◌}
+use lib.ListN.{length-set}
+use Rattle.lists.proofs.Tables.{is_tabulate, set_more}
+use Rattle.fresh.proofs.homes.fill_ways.Goals as goal
+
+pub loop-i-init : goal.loop-i-init
+loop-i-init c = (omega arith, refl, λ j low. absurd (omega arith))
+
+pub loop-i-preserved : goal.loop-i-preserved
+loop-i-preserved c =
+    let a = c.args in
+    let l = c.loop-i in (
+      simp length-set (omega arith),
+      length-set l.ways l.i a.way ∙ l.invariant.1,
+      set_more (λ (j v : ℕ). v ≡ a.way) 0 l.ways l.i a.way (omega arith) l.invariant.2 refl,
+    )
+
+pub returns : goal.returns
+returns c =
+    let l = c.loop-i in
+    is_tabulate 0 l.ways _ _ l.invariant.1 (λ j low. l.invariant.2 j (omega arith))
