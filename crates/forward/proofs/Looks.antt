@@ -3,20 +3,16 @@ use Prim.Native.Nat.{ℕ, zero, suc, ◌+◌, ◌*◌, ◌/◌, ◌%◌, ◌≤�
 use native.Mathlib.Nat.{mul-le-mul}
 use native.Mathlib.Omega.{arith}
 use mathlib.Core.Path.{◌≡◌, refl, sym, ap, ◌∙◌}
-use mathlib.Core.Bool.{Bool, true, false, cond, ◌&&◌, not}
-use mathlib.Core.Logic.{⊎_elim}
-use mathlib.Core.List.{List, [], ◌∷◌}
-use types.Run.{OneOf}
-use denote.Enum.Declared.{tag_of}
+use mathlib.Core.Bool.{Bool, true, false, cond, ◌&&◌}
+use mathlib.Core.List.{List}
 use lib.ListN.{length, get_or, get_or-eq_default}
 use lib.Dec.{leb, ltb, eqb}
-use borrow.Author.Tests.{lt-ltb, le-leb, lt-leb, eq-eqb, ne_eqb, ltb-true, leb-true, not-true, not-false}
+use borrow.Author.Tests.{lt-ltb, le-leb, lt-leb, eq-eqb, ne_eqb, ltb-true, leb-true}
 use Rattle.lists.proofs.Tests.{both}
 use Rattle.stacks.specs.Stacks.{number, top, rest}
 use Rattle.functions.specs.Functions.{kind_of, from_of, to_of}
 use Rattle.functions.specs.Answers.{ok_move, move_number, moved_of, number_after}
 use Rattle.functions.specs.declared.After.{After}
-use Rattle.functions.specs.contracts.After.{the_type}
 use Rattle.functions.proofs.Laws.{moved_applied}
 use Rattle.network.specs.Network.{Network, stacks, link, present}
 use Rattle.network.proofs.Laws.{valid}
@@ -38,8 +34,8 @@ pub record Room (n s U D N : ℕ) : Type 0 where
   pub most : N ≤ 16384
 
 -- what `good_place` answers, as `look` tests it
-pub placed_so : (n s U D N : ℕ) {b : Bool} → b ≡ ok_place n s U D N → not b ≡ false → ok_place n s U D N ≡ true
-placed_so n s U D N {b} is e = sym is ∙ not-false b e
+pub placed_so : (n s U D N : ℕ) {b : Bool} → b ≡ ok_place n s U D N → b ≡ true → ok_place n s U D N ≡ true
+placed_so n s U D N is e = sym is ∙ e
 
 pub room : (n s U D N : ℕ) → ok_place n s U D N ≡ true → Room n s U D N
 unfolding ok_place
@@ -93,10 +89,10 @@ some_number p most f n m e = go (ok_move p most f n) e
     go false d = absurd (let z : ◌≡◌ {A = ℕ} 0 1 = cc in omega arith)
 
 -- an answer that is no number
-no_number : (a : After) → OneOf (1 ∷ 2 ∷ []) (tag_of the_type a) → number_after a ≡ 0
-no_number (After.Number m) told = absurd (⊎_elim (λ (z : 0 ≡ 1). omega arith) (λ (z : 0 ≡ 2). omega arith) told)
-no_number After.NotApplicable told = refl
-no_number (After.Refused r) told = refl
+no_number : (a : After) → ((m : ℕ) → a ≡ After.Number m → ⊥) → number_after a ≡ 0
+no_number (After.Number m) none = absurd (none m refl)
+no_number After.NotApplicable none = refl
+no_number (After.Refused r) none = refl
 
 -- a cost that passes its tests
 pub record Costed (c : ℕ) : Type 0 where
@@ -145,8 +141,8 @@ module _ (net : Network) (U c w M : ℕ) where
 -- and with what `moved` answers
 module _ (net : Network) (s U N c w : ℕ) (q : Costed c) {x : ℕ} (is_x : x ≡ link net U (w / 256)) (linked : x ≡ 0 → ⊥) {y : ℕ} (is_y : y ≡ word net U (w % 256))
     (able : y ≡ 0 → ⊥) {a : After} (is : a ≡ moved_of net.p s (w % 256) N) where
-  pub no_result : OneOf (1 ∷ 2 ∷ []) (tag_of the_type a) → Look.Refused 7 ≡ row_answer net s false U N c w
-  no_result told = none_made net U c w _ q is_x linked is_y able (ap number_after (sym is) ∙ no_number a told)
+  pub no_result : ((m : ℕ) → a ≡ After.Number m → ⊥) → Look.Refused 7 ≡ row_answer net s false U N c w
+  no_result none = none_made net U c w _ q is_x linked is_y able (ap number_after (sym is) ∙ no_number a none)
 
   pub forwards : (m : ℕ) → a ≡ After.Number m → Look.Forward (w / 256) (w % 256) m c ≡ row_answer net s false U N c w
   forwards m e =
@@ -156,8 +152,8 @@ module _ (net : Network) (s U N c w : ℕ) (q : Costed c) {x : ℕ} (is_x : x �
 
 -- ---- look_of
 module _ (net : Network) (s : ℕ) (cost way : List ℕ) (U D N : ℕ) where
-  pub misplaced : {b : Bool} → b ≡ ok_place net.n s U D N → not b ≡ true → Look.Refused 4 ≡ look_of net s cost way U D N
-  misplaced {b} is e = simp (sym is ∙ not-true b e)
+  pub misplaced : {b : Bool} → b ≡ ok_place net.n s U D N → b ≡ false → Look.Refused 4 ≡ look_of net s cost way U D N
+  misplaced is e = simp (sym is ∙ e)
 
   pub delivered_here : ok_place net.n s U D N ≡ true → {b : Bool} → b ≡ home net U D N → b ≡ true → Look.Delivered ≡ look_of net s cost way U D N
   delivered_here ok is e = simp (ok, sym is ∙ e)

@@ -1,5 +1,6 @@
 // Where a packet goes next. Every public function takes any input; its contract is an equation of specs/Answers.antt.
 #![tactic(auto)]
+
 ghost use Rattle.std.specs.Prelude.{◌≡◌};
 ghost use Rattle.network.specs.Network.{network_of};
 ghost use Rattle.table.specs.Table.{table_of};

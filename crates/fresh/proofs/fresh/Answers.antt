@@ -5,10 +5,10 @@ use Rattle.table.specs.Table.{table_of}
 use Rattle.table.proofs.Begins.{Ready, is_ready, is_refused}
 use Rattle.fresh.proofs.Starts.{shape_of, none_yet, fresh_table_lem, fresh_count, fresh_refused}
 use Rattle.fresh.proofs.fresh.Goals as goal
-use Rattle.fresh.proofs.fresh.Goals.{In-Stacks-2}
+use Rattle.fresh.proofs.fresh.Goals.{In-Stacks}
 
 -- the network and the table are found right
-found : (c : In-Stacks-2) → let a = c.args in
+found : (c : In-Stacks) → let a = c.args in
     Ready (network_of a.n a.p a.h a.links.now a.functions.now) (table_of a.cost.now a.way.now a.waiting.now) c.in-Stacks.stacks
 found c =
     let a = c.args in
@@ -16,7 +16,7 @@ found c =
 
 pub all_homes-requires : goal.all_homes-requires
 all_homes-requires c =
-    let r = found (goal.at.all_homes-requires c).In-Stacks-2 in (
+    let r = found (goal.at.all_homes-requires c).In-Stacks in (
       shape_of _ _ _ r,
       none_yet _ _ _ r _ _ _ _ _ r.cost_long c.fill_words.ensures,
       none_yet _ _ _ r _ _ _ _ _ r.waiting_long c.fill_words-in-Stacks.ensures,
@@ -24,7 +24,7 @@ all_homes-requires c =
 
 pub returns-in-Stacks : goal.returns-in-Stacks
 returns-in-Stacks c =
-    let r = found (goal.at.returns-in-Stacks c).In-Stacks-2 in
+    let r = found (goal.at.returns-in-Stacks c).In-Stacks in
     let set = c.all_homes.ensures in
     let ways = c.fill_ways.ensures in (
       fresh_count _ _ _ r _ _ _ set.0 ways set.1 _ set.2,

@@ -10,21 +10,14 @@ use Rattle.bits.specs.Bits.{has}
 use Rattle.bits.proofs.Laws.{no_bit}
 use Rattle.table.proofs.Walk.{AtRow, at_start, at_row, row_inside, row_passed, bit_found, node_passed, all_passed}
 use Rattle.waiting.proofs.search.search.Goals as goal
-use Rattle.waiting.proofs.search.search.Goals.{At-table, In-loop-row}
-
-abbrev start : At-table invariant-table decreases-table → goal.Start invariant-table decreases-table
-start c = c.before.before
-
-abbrev table_of : In-loop-row invariant-table decreases-table → goal.At-table invariant-table decreases-table
-table_of c = c.before.before.before
+use Rattle.waiting.proofs.search.search.Goals.{In-loop-row}
 
 -- the laws' premises in a turn of the loop over rows
-at-this-row : (c : In-loop-row invariant-table decreases-table)
-    → AtRow (start (table_of c)).args.waiting.now (start (table_of c)).args.rows (table_of c).table.node c.loop-row.row
+at-this-row : (c : In-loop-row)
+    → AtRow c.args.waiting.now c.args.rows c.table.node c.loop-row.row
 at-this-row c =
-    let s = start (table_of c) in
     record {
-      inside = row_inside s.args.waiting.now s.args.nodes _ _ _ s.pre.0 c.table-test.true c.loop-row-test.true;
+      inside = row_inside c.args.waiting.now c.args.nodes _ _ _ c.requires.0 c.table-test.true c.loop-row-test.true;
       ahead = c.loop-row.invariant.2;
     }
 
@@ -70,7 +63,7 @@ table-preserved c =
 pub returns-after-table : goal.returns-after-table
 returns-after-table c =
     let t = c.table in
-    t.invariant.0 ∙ all_passed _ (start (goal.at.returns-after-table c).At-table).args.nodes _ t.node (start (goal.at.returns-after-table c).At-table).pre.0 t.invariant.1 c.table-test.false t.invariant.2
+    t.invariant.0 ∙ all_passed _ c.args.nodes _ t.node c.requires.0 t.invariant.1 c.table-test.false t.invariant.2
 
 pub returns-then-has : goal.returns-then-has
 returns-then-has c =
