@@ -1,5 +1,6 @@
 // How far a packet is carried. The call takes any input; its contract is an equation of specs/Carry.antt.
 #![tactic(auto)]
+
 ghost use Rattle.network.specs.Network.{network_of};
 ghost use Rattle.table.specs.Table.{table_of};
 ghost use Rattle.carry.specs.Carry.{Carries, carry_of};
