@@ -1,7 +1,6 @@
 -- `fresh::homes::node_homes` meets its contract. The invariant: the homes before protocol x of the node are set.
 use Prim.Native.Nat.{◌+◌, ◌-◌, ◌*◌, ◌/◌, ◌≤◌, ◌<◌}
 use mathlib.Core.Path.{◌≡◌, refl, sym, ap, ◌∙◌}
-use mathlib.Core.Logic.{⊎_elim}
 use native.Mathlib.Omega.{arith}
 use Rattle.bits.proofs.Counts.{ones_le}
 use Rattle.words.specs.Words.{ones_in}
@@ -10,6 +9,7 @@ use Rattle.table.specs.Table.{no_row}
 use Rattle.fresh.specs.Filling.{costs_below, waits_below}
 use Rattle.fresh.proofs.HomePlaces.{below_length, place_low, place_node, first_most, rows_most, turn_set, turn_skip, turn_last, messages_fit, messages_more}
 use Rattle.fresh.proofs.homes.node_homes.Goals as goal
+use Rattle.fresh.proofs.homes.node_homes.Goals.{then-accepts, else-accepts}
 use Rattle.fresh.proofs.homes.node_homes.Goals.{Then-accepts}
 
 pub overflow_cast-each : goal.overflow_cast-each
@@ -83,27 +83,24 @@ loop-x-preserved c =
     let answer = sym c.accepts.ensures in
     let word = c.neighbours-word in
     let ones = c.ones-each in
-    ⊎_elim
-    (λ w. (
+    elim c.if-accepts.branch [ then-accepts w ↦ (
       omega arith,
-      w.1 ∙ turn_set c.args.n c.args.p c.args.stacks c.requires.0 c.args.functions.now (λ i. 0) no_row c.args.node c.requires.1 l.cost l.x 0 low (answer ∙ w.0.taken) refl l.invariant.1,
-      w.2
-          ∙ turn_set c.args.n c.args.p c.args.stacks c.requires.0 c.args.functions.now (λ i. neighbours_at c.args.n c.args.links.now (i / c.args.stacks / c.args.n)) 0 c.args.node c.requires.1 l.waiting l.x word.result low (answer ∙ w.0.taken)
+      w.cost-is ∙ turn_set c.args.n c.args.p c.args.stacks c.requires.0 c.args.functions.now (λ i. 0) no_row c.args.node c.requires.1 l.cost l.x 0 low (answer ∙ w.if-accepts.true) refl l.invariant.1,
+      w.waiting-is
+          ∙ turn_set c.args.n c.args.p c.args.stacks c.requires.0 c.args.functions.now (λ i. neighbours_at c.args.n c.args.links.now (i / c.args.stacks / c.args.n)) 0 c.args.node c.requires.1 l.waiting l.x word.result low (answer ∙ w.if-accepts.true)
           (word.ensures ∙ ap (neighbours_at c.args.n c.args.links.now) (sym (place_node c.args.n c.args.p c.args.stacks c.requires.0 c.args.node l.x c.requires.1 low)))
           l.invariant.2,
-      w.3
+      w.messages-is
           ∙ messages_more c.args.n c.args.p c.args.stacks c.requires.0 c.args.functions.now _ c.args.node l.x c.requires.1 low l.waiting l.invariant.2 l.messages ones.result word.result ones.ensures l.invariant.3
-          ∙ ap ones_in (sym w.2),
-    ))
-    (λ w. (
+          ∙ ap ones_in (sym w.waiting-is),
+    ) | else-accepts w ↦ (
       omega arith,
-      w.1 ∙ turn_skip c.args.n c.args.p c.args.stacks c.requires.0 c.args.functions.now (λ i. 0) no_row c.args.node c.requires.1 l.cost l.x low (answer ∙ w.0.left) l.invariant.1,
-      w.2
-          ∙ turn_skip c.args.n c.args.p c.args.stacks c.requires.0 c.args.functions.now (λ i. neighbours_at c.args.n c.args.links.now (i / c.args.stacks / c.args.n)) 0 c.args.node c.requires.1 l.waiting l.x low (answer ∙ w.0.left)
+      w.cost-is ∙ turn_skip c.args.n c.args.p c.args.stacks c.requires.0 c.args.functions.now (λ i. 0) no_row c.args.node c.requires.1 l.cost l.x low (answer ∙ w.if-accepts.false) l.invariant.1,
+      w.waiting-is
+          ∙ turn_skip c.args.n c.args.p c.args.stacks c.requires.0 c.args.functions.now (λ i. neighbours_at c.args.n c.args.links.now (i / c.args.stacks / c.args.n)) 0 c.args.node c.requires.1 l.waiting l.x low (answer ∙ w.if-accepts.false)
           l.invariant.2,
-      w.3 ∙ l.invariant.3 ∙ ap ones_in (sym w.2),
-    ))
-    c.if-accepts.branch
+      w.messages-is ∙ l.invariant.3 ∙ ap ones_in (sym w.waiting-is),
+    ) ]
 
 pub returns : goal.returns
 returns c =
