@@ -1,5 +1,6 @@
 // The calls that write a fresh table and ask what waits, exported to C: the numbers and slices of include/bannogwy.h, the answer packed into one number.
 #![tactic(auto)]
+
 ghost use Rattle.std.specs.Prelude.{◌≡◌};
 ghost use Rattle.network.specs.Network.{network_of};
 ghost use Rattle.table.specs.Answers.{count_answer, first_answer, fresh_answer, fresh_table};

@@ -1,0 +1,40 @@
+-- `run::search::search_flagged` meets its contract. The invariant: the nodes that are passed hold nothing, so the search from here on has the answer
+-- of the whole search; and the flags are right.
+use Prim.Native.Nat.{◌+◌, ◌*◌, ◌-◌, ◌≤◌}
+use native.Mathlib.Omega.{arith}
+use borrow.Author.Rules.{rules}
+use lib.ListN.{length}
+use Rattle.table.proofs.Places.{block_fits}
+use Rattle.table.proofs.Firsts.{part_found, part_passed}
+use Rattle.table.proofs.Walk.{at_start, node_passed, all_passed}
+use Rattle.run.proofs.search.search_flagged.Goals as goal
+use Rattle.run.proofs.search.search_flagged.Goals.{In-loop-node}
+
+inside : (c : In-loop-node) → ((c.loop-node.node * (c.args.n * c.args.stacks)) + c.args.n * c.args.stacks) ≤ length c.args.waiting.now
+inside c =
+    let a = c.args in
+    omega (arith, c.requires.1, block_fits (a.n * a.stacks) c.loop-node.node a.n c.loop-node-test.true)
+
+pub loop-node-init : goal.loop-node-init
+loop-node-init c = (search rules, at_start _ _, c.requires.2)
+
+pub search_node-requires : goal.search_node-requires
+search_node-requires c =
+    (search rules, c.requires.0, c.requires.1, c.loop-node.invariant.2)
+
+pub returns-in-At : goal.returns-in-At
+returns-in-At c = record {
+  value = part_found _ (c.loop-node.node * (c.args.n * c.args.stacks)) ((c.loop-node.node * (c.args.n * c.args.stacks)) + c.args.n * c.args.stacks) c.loop-node.invariant.1 (inside (goal.at.returns-in-At c).In-loop-node) _ _ _ c.search_node.ensures.value c.in-At.is;
+  flagged = c.search_node.ensures.flagged;
+}
+
+pub loop-node-preserved : goal.loop-node-preserved
+loop-node-preserved c =
+    let found = c.search_node.ensures.value in
+    let behind = part_passed _ (c.loop-node.node * (c.args.n * c.args.stacks)) ((c.loop-node.node * (c.args.n * c.args.stacks)) + c.args.n * c.args.stacks) c.loop-node.invariant.1 (inside (goal.at.loop-node-preserved c).In-loop-node) _ found c.in-Nowhere.is (omega arith) in
+    (search rules, node_passed _ _ c.loop-node.node _ (omega arith) (omega arith) behind, c.search_node.ensures.flagged)
+
+pub returns : goal.returns
+returns c =
+    let l = c.loop-node in
+    record { value = all_passed _ c.args.n _ l.node c.requires.1 l.invariant.0 c.loop-node-test.false l.invariant.1; flagged = l.invariant.2 }
