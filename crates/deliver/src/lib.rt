@@ -1,5 +1,6 @@
 // One delivery. Total: the contract is an equation with definitions of crate table.
 #![tactic(auto)]
+
 ghost use Rattle.std.specs.Prelude.{◌≡◌};
 ghost use Rattle.network.specs.Network.{network_of};
 ghost use Rattle.table.specs.Table.{table_of};
