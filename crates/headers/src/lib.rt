@@ -1,5 +1,6 @@
 // Reads the stack of headers from a packet's bytes. The public function takes any input; its contract is an equation in specs/Answers.antt.
 #![tactic(auto)]
+
 ghost use Rattle.std.specs.Prelude.{◌≡◌};
 ghost use Rattle.headers.specs.Answers.{out_of, read_of};
 

@@ -1,7 +1,8 @@
 // The small network of the specification: run to quiet, then each row that has a cost, then how many messages wait.
 #![tactic(auto)]
-use libc::STDOUT_FILENO;
+
 use stacks::Answer;
+use std::io;
 use table::Counted;
 
 // p = 2 (a is 0, b is 1), h = 2, so there are 6 stacks; four nodes in a line: 0 to 1 costs 2, back 7; 1 to 2 costs 3, back 3; 2 to 3 costs 1, back 4.
@@ -13,27 +14,27 @@ const FUNCTIONS: [u16; 48] = [
     0, 2, 0, 0, 1, 0, 0, 0, 0, 0, 0, 0, 0, 0, 0, 0,
 ];
 
-fn text(bytes: &[u8]) {
-    io::write_all(STDOUT_FILENO, bytes);
+fn text(rt: &impl Print, bytes: &[u8]) -> io::Result<()> {
+    rt.write_all(bytes)
 }
 
-fn number(x: u64) {
-    io::print_decimal(STDOUT_FILENO, x);
+fn number(rt: &impl Print, x: u64) -> io::Result<()> {
+    print!(rt; "{x}")
 }
 
-fn space() {
-    text(b" ");
+fn space(rt: &impl Print) -> io::Result<()> {
+    text(rt, b" ")
 }
 
-fn end_line() {
-    text(b"\n");
+fn end_line(rt: &impl Print) -> io::Result<()> {
+    text(rt, b"\n")
 }
 
-fn letter(protocol: usize) {
+fn letter(rt: &impl Print, protocol: usize) -> io::Result<()> {
     if protocol == 0 {
-        text(b"a");
+        text(rt, b"a")
     } else {
-        text(b"b");
+        text(rt, b"b")
     }
 }
 
@@ -42,95 +43,96 @@ fn wide(x: u8) -> usize {
 }
 
 // The stack of a number, bottom to top.
-fn print_stack(stack_number: usize) {
+fn print_stack(rt: &impl Print, stack_number: usize) -> io::Result<()> {
     let mut stack = [0u8; 2];
     match stacks::stack_of(2, 2, stack_number, &mut stack) {
         Answer::Value(height) => {
             if 0 < height {
-                letter(wide(stack[0]));
+                letter(rt, wide(stack[0]))?;
             }
             if 1 < height {
-                letter(wide(stack[1]));
+                letter(rt, wide(stack[1]))?;
             }
+            Ok(())
         }
-        Answer::Refused(_) => {}
+        Answer::Refused(_) => Ok(()),
     }
 }
 
 // What is on top before and after a function.
-fn print_function(function: usize) {
+fn print_function(rt: &impl Print, function: usize) -> io::Result<()> {
     let kind = function / 64;
     let from = function / 8 % 8;
     let to = function % 8;
-    letter(from);
+    letter(rt, from)?;
     if kind == 2 {
-        letter(to);
+        letter(rt, to)?;
     }
-    text(b">");
+    text(rt, b">")?;
     if kind == 0 {
-        letter(to);
-        return;
+        return letter(rt, to);
     }
-    letter(from);
+    letter(rt, from)?;
     if kind == 1 {
-        letter(to);
+        letter(rt, to)?;
     }
+    Ok(())
 }
 
 // The way's next node and function, or two dashes at a delivery row.
-fn print_way(way: u16) {
+fn print_way(rt: &impl Print, way: u16) -> io::Result<()> {
     if way == 65535 {
-        text(b" - -");
-        return;
+        return text(rt, b" - -");
     }
     let named = way as usize;
-    space();
-    number((named / 256) as u64);
-    space();
-    print_function(named % 256);
+    space(rt)?;
+    number(rt, (named / 256) as u64)?;
+    space(rt)?;
+    print_function(rt, named % 256)
 }
 
 // One line: node, destination, stack, cost, next node, function.
-fn print_row(place: usize, cost: u32, way: u16) {
+fn print_row(rt: &impl Print, place: usize, cost: u32, way: u16) -> io::Result<()> {
     if cost == 4294967295 {
-        return;
+        return Ok(());
     }
-    number((place / 6 / 4) as u64);
-    space();
-    number((place / 6 % 4) as u64);
-    space();
-    print_stack(place % 6 + 1);
-    space();
-    number(cost as u64);
-    print_way(way);
-    end_line();
+    number(rt, (place / 6 / 4) as u64)?;
+    space(rt)?;
+    number(rt, (place / 6 % 4) as u64)?;
+    space(rt)?;
+    print_stack(rt, place % 6 + 1)?;
+    space(rt)?;
+    number(rt, cost as u64)?;
+    print_way(rt, way)?;
+    end_line(rt)
 }
 
-fn print_rows(cost: &[u32], way: &[u16]) {
+fn print_rows(rt: &impl Print, cost: &[u32], way: &[u16]) -> io::Result<()> {
     let mut i = 0;
     while i < cost.len() {
         if i < way.len() {
-            print_row(i, cost[i], way[i]);
+            print_row(rt, i, cost[i], way[i])?;
         }
         i += 1;
     }
+    Ok(())
 }
 
-fn print_messages(messages: Counted) {
+fn print_messages(rt: &impl Print, messages: Counted) -> io::Result<()> {
     match messages {
         Counted::Messages(waiting) => {
-            text(b"waiting ");
-            number(waiting);
+            text(rt, b"waiting ")?;
+            number(rt, waiting)?;
         }
         Counted::Refused(refusal) => {
-            text(b"refused ");
-            number(refusal as u64);
+            text(rt, b"refused ")?;
+            number(rt, refusal as u64)?;
         }
     }
-    end_line();
+    end_line(rt)
 }
 
-fn main() {
+fn main(rt: HostRuntime) -> io::Result<()> {
     let links = LINKS;
     let functions = FUNCTIONS;
     let mut cost = [0u32; 96];
@@ -157,6 +159,9 @@ fn main() {
         &mut waiting,
         1000,
     );
-    print_rows(&cost, &way);
-    print_messages(waiting::count(4, 2, 2, &links, &functions, &cost, &way, &waiting));
+    print_rows(&rt, &cost, &way)?;
+    print_messages(
+        &rt,
+        waiting::count(4, 2, 2, &links, &functions, &cost, &way, &waiting),
+    )
 }

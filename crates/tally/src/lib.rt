@@ -1,5 +1,6 @@
 // The tally of deliver and run. It is worked out by value; one thin function brings the caller's record up to date in place.
 #![tactic(auto)]
+
 ghost use Rattle.std.specs.Prelude.{◌≡◌, ◌+◌};
 ghost use Rattle.tally.specs.Tally.{added_to, after_delivery, after_run, calls_refused, capped};
 
@@ -7,7 +8,7 @@ use table::{Delivered, Ran};
 
 // Deliveries done, offers that rows took, and calls refused.
 #[repr(C)]
-#[derive(Drop)]
+#[derive(Clone, Copy)]
 pub struct Tally {
     pub deliveries: u32,
     pub offers: u32,
