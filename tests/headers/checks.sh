@@ -16,7 +16,7 @@ prepare_packets() {
 }
 
 packets_answered() {
-    run_program "$out/headers" <"$packets.records" >"$packets.answers"
+    "$out/headers" <"$packets.records" >"$packets.answers"
 }
 
 # packets_agree PROGRAM: the answers are what this program reads
@@ -51,8 +51,8 @@ packet_faults() {
 next_hop() {
     local packet=$out/packet_hop.packet said
     "${python[@]}" tests/headers/one_packet.py "$3" >"$packet" || return 1
-    said=$(run_program "$out/packet_hop" examples/depots.txt "$1" "$2" <"$packet") || return 1
-    printf '%s\n' "$1 $2 $3" | run_program "$out/daemon" examples/depots.txt | diff - <(tail -n 1 <<<"$said") &&
+    said=$("$out/packet_hop" examples/depots.txt "$1" "$2" <"$packet") || return 1
+    printf '%s\n' "$1 $2 $3" | "$out/daemon" examples/depots.txt | diff - <(tail -n 1 <<<"$said") &&
         [[ $said == "stack $3, then 4 bytes from byte "* ]]
 }
 
@@ -60,7 +60,7 @@ next_hop() {
 hop_refused() {
     local says=$1
     shift
-    [ "$("$@" | run_program "$out/packet_hop" examples/depots.txt Aberlas Maesgwyn)" = "$says" ]
+    [ "$("$@" | "$out/packet_hop" examples/depots.txt Aberlas Maesgwyn)" = "$says" ]
 }
 
 packet_hops() {

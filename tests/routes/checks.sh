@@ -3,7 +3,7 @@
 
 # answers NAME [FILE]: the daemon says of these packets what is expected, with the network of examples/NAME.txt or of this file
 answers() {
-    run_program "$out/daemon" "${2:-examples/$1.txt}" <"tests/daemon/$1.packets" >"$out/$1.answers" || return 1
+    "$out/daemon" "${2:-examples/$1.txt}" <"tests/daemon/$1.packets" >"$out/$1.answers" || return 1
     diff "tests/daemon/$1.expected" "$out/$1.answers"
 }
 
@@ -11,7 +11,7 @@ answers() {
 says() {
     local program=$1 status=$2 expected=$3 said
     shift 3
-    said=$(run_program "$out/$program" "$@" </dev/null 2>&1)
+    said=$("$out/$program" "$@" </dev/null 2>&1)
     [ "$?,$said" = "$status,$expected" ] && return 0
     printf 'expected: %s\nsaid:     %s\n' "$expected" "$said"
     return 1
@@ -57,7 +57,7 @@ daemon() {
 prints() {
     local name=$1
     shift
-    run_program "$out/routes" "$@" >"$out/$name.printed" || return 1
+    "$out/routes" "$@" >"$out/$name.printed" || return 1
     diff "tests/routes/$name.expected" "$out/$name.printed"
 }
 
@@ -65,7 +65,7 @@ prints() {
 routed() {
     local name=$1
     shift
-    run_program "$out/routes" examples/depots.txt "$@" >"$out/$name.printed" || return 1
+    "$out/routes" examples/depots.txt "$@" >"$out/$name.printed" || return 1
     sed '/^No pair was named/,$d' tests/routes/depots.expected | cat - "tests/routes/$name.expected" | diff - "$out/$name.printed"
 }
 
@@ -73,7 +73,7 @@ routed() {
 dear_carry() {
     local said
     build_example routes "$out/dear" -Dbannogwy_carry=dear_carry tests/routes/dear_carry.c || return 1
-    said=$(run_program "$out/dear" examples/depots.txt 2>&1 >/dev/null)
+    said=$("$out/dear" examples/depots.txt 2>&1 >/dev/null)
     [ "$?,$said" = '1,routes: the library'"'"'s answers disagree: carry makes other hops, spends something else or arrives elsewhere' ]
 }
 

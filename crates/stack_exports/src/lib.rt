@@ -1,5 +1,6 @@
 // The calls on stacks, exported to C: the numbers and slices of include/bannogwy.h, the answer packed into one number.
 #![tactic(auto)]
+
 ghost use Rattle.std.specs.Prelude.{◌≡◌};
 ghost use Rattle.stacks.specs.Answers.{count_of, height_of, number_of, out_of};
 ghost use Rattle.functions.specs.Answers.{applied_of, inverse_of};
