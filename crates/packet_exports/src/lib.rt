@@ -1,5 +1,6 @@
 // The calls on packets, exported to C: the numbers and slices of include/bannogwy.h, the answer packed into one number or written as four.
 #![tactic(auto)]
+
 ghost use Rattle.std.specs.Prelude.{◌≡◌};
 ghost use Rattle.network.specs.Network.{network_of};
 ghost use Rattle.table.specs.Table.{table_of};
