@@ -1,5 +1,5 @@
 -- The table is the theory: for each destination, a network is a graph of crate relax and a table is a state over that graph.
-use Rattle.std.specs.Prelude.{ℕ, ◌-◌, ◌/◌, ◌%◌, ◌<◌, ◌≡◌, Bool, true, cond, ◌&&◌, get_or, ltb}
+use Rattle.std.specs.Prelude.{ℕ, ◌/◌, ◌%◌, ◌<◌, ◌≡◌, Bool, true, cond, ◌&&◌, get_or, ltb}
 use Rattle.relax.specs.Graph.{Graph, State, Lawful, Same, Fresh, Deliver}
 use Rattle.functions.specs.Answers.{applied_of, number_after}
 use Rattle.functions.specs.declared.After.{After}

@@ -1,5 +1,4 @@
 -- `gateways::accepts` meets its contract. The invariant: with no protocol before y has the node a function that makes it receive x.
-use Prim.Native.Nat.{◌-◌}
 use native.Mathlib.Omega.{arith}
 use mathlib.Core.Path.{sym}
 use borrow.Author.Count.{below_more}

@@ -1,5 +1,5 @@
 -- `gateways::grid` meets its contract. The invariant: the rows before a are the grid's.
-use Prim.Native.Nat.{ℕ, ◌-◌}
+use Prim.Native.Nat.{ℕ}
 use native.Mathlib.Omega.{arith}
 use mathlib.Core.Path.{◌≡◌, refl}
 use mathlib.Core.List.{List, []}

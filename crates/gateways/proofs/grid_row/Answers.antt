@@ -1,5 +1,5 @@
 -- `gateways::grid_row` meets its contract. The invariant: the elements before b are the grid's words.
-use Prim.Native.Nat.{ℕ, ◌-◌}
+use Prim.Native.Nat.{ℕ}
 use native.Mathlib.Omega.{arith}
 use mathlib.Core.Path.{◌≡◌, refl}
 use lib.ListN.{length-set}

@@ -1,5 +1,4 @@
 -- `hear::hear` meets its contract: a refusal, or the loop, whose invariant is that the first i candidates have made their offers.
-use Prim.Native.Nat.{◌-◌}
 use mathlib.Core.Path.{refl}
 use mathlib.Core.List.{[], ◌∷◌}
 use native.Mathlib.Omega.{arith}

@@ -1,11 +1,10 @@
 -- `network::check` meets its contract: a law for each test that refuses, and half of the links for all of them.
-use mathlib.Core.Path.{◌≡◌, sym, ◌∙◌}
-use mathlib.Core.Bool.{true}
+use mathlib.Core.Path.{sym, ◌∙◌}
 use native.Mathlib.Omega.{arith}
-use Rattle.network.specs.Network.{Network, network_of}
+use Rattle.network.specs.Network.{network_of}
 use Rattle.network.proofs.Links.{half_is_all}
 use Rattle.network.proofs.Bounds.{product_bound, product_fits, room_fits, links_fit}
-use Rattle.network.proofs.Refusals.{told_count, not_counted, ok_nodes, ok_products, few_nodes, bad_nodes, bad_size, bad_products, links_long, bad_links, all_good}
+use Rattle.network.proofs.Refusals.{told_count, not_counted, few_nodes, bad_nodes, bad_size, bad_products, links_long, bad_links, all_good}
 use Rattle.network.proofs.check.Goals as goal
 
 pub returns-then-not-n : goal.returns-then-not-n

@@ -1,11 +1,9 @@
 -- `network::good_links` meets its contract. The invariant: the row of each node before u is good.
-use Prim.Native.Nat.{◌-◌}
 use native.Mathlib.Omega.{arith}
 use mathlib.Core.Path.{sym, ◌∙◌}
-use mathlib.Core.Bool.{true}
 use borrow.Author.Count.{below_more}
 use Rattle.lists.proofs.Tests.{every_all, every_not}
-use Rattle.network.specs.Steps.{good_row, half_links}
+use Rattle.network.specs.Steps.{half_links}
 use Rattle.network.proofs.good_links.Goals as goal
 
 pub loop-u-init : goal.loop-u-init

@@ -1,8 +1,6 @@
 -- `network::good_row` meets its contract. The invariant: each node before w is linked both ways or not at all.
-use Prim.Native.Nat.{◌-◌}
 use native.Mathlib.Omega.{arith}
 use mathlib.Core.Path.{sym, ◌∙◌}
-use mathlib.Core.Bool.{true}
 use borrow.Author.Count.{below_more}
 use borrow.Author.Tests.{not-true, not-false}
 use Rattle.network.proofs.Rows.{pair_told, row_loop, row_one_way, row_good}

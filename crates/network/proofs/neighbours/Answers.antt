@@ -1,5 +1,5 @@
 -- `network::neighbours` meets its contract. The invariant: the word so far is that of the links to the nodes before w.
-use Prim.Native.Nat.{ℕ, ◌-◌}
+use Prim.Native.Nat.{ℕ}
 use native.Mathlib.Omega.{arith}
 use mathlib.Core.Path.{◌≡◌, refl, sym, ap, ◌∙◌}
 use lib.Dec.{ltb}

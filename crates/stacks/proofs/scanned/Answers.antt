@@ -1,9 +1,8 @@
 -- `stacks::scanned` meets its contract: the scan from what is passed and what is left is the scan of the whole.
-use Prim.Native.Nat.{◌+◌, ◌-◌, ◌*◌, ◌≤◌}
+use Prim.Native.Nat.{◌+◌, ◌*◌, ◌≤◌}
 use mathlib.Core.Path.{refl, sym, ◌∙◌}
 use lib.ListN.{get_or}
 use native.Mathlib.Omega.{arith}
-use Rattle.stacks.specs.Stacks.{count}
 use Rattle.stacks.proofs.Count.{step_fits, next_fits}
 use Rattle.stacks.proofs.Scan.{scan_step, scan_stop, scan_end}
 use Rattle.stacks.proofs.scanned.Goals as goal

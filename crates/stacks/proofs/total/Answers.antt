@@ -1,5 +1,5 @@
 -- `stacks::total` meets its contract: after i turns, n is how many stacks of height at most i there are.
-use Prim.Native.Nat.{ℕ, ◌≤◌, ◌-◌, ◌*◌, ◌+◌}
+use Prim.Native.Nat.{ℕ, ◌≤◌, ◌*◌, ◌+◌}
 use mathlib.Core.Path.{sym, ap, ◌∙◌}
 use native.Mathlib.Nat.{mul-le-mul_right, le_antisymm}
 use native.Mathlib.Numerals.{add-one}

@@ -1,6 +1,6 @@
 -- `words::first_in` meets its contract. The invariant: the search from i on has the answer of the whole search.
 use mathlib.Core.Path.{sym, ap, ◌∙◌}
-use Prim.Native.Nat.{ℕ, ◌-◌}
+use Prim.Native.Nat.{ℕ}
 use native.Mathlib.Omega.{arith}
 use Rattle.words.specs.declared.Found.TheVariants.{At}
 use Rattle.words.specs.Words.{first_between}

@@ -1,6 +1,6 @@
 -- `words::ones_in` meets its contract. The invariant: the sum so far and the bits of the words left make the whole, and the sum is at most 32 a word.
 use mathlib.Core.Path.{sym}
-use Prim.Native.Nat.{◌-◌, ◌≤◌}
+use Prim.Native.Nat.{◌≤◌}
 use native.Mathlib.Nat.{zero-add}
 use native.Mathlib.Omega.{arith}
 use borrow.Author.Rules.{rules}

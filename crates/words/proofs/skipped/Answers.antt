@@ -1,6 +1,5 @@
 -- `words::skipped` meets its contract. The invariant: the search from i on has the answer of the search from the start.
 use mathlib.Core.Path.{refl, sym, ◌∙◌}
-use Prim.Native.Nat.{◌-◌}
 use native.Mathlib.Omega.{arith}
 use Rattle.words.proofs.Search.{first_four}
 use Rattle.words.proofs.skipped.Goals as goal

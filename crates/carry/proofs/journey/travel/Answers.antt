@@ -1,7 +1,7 @@
 -- `carry::journey::travel` meets its contract: hop by hop, what is done and what is left are the journey from the start.
-use Prim.Native.Nat.{ℕ, ◌+◌, ◌-◌}
-use mathlib.Core.Path.{◌≡◌, refl, sym, subst, ◌∙◌}
-use mathlib.Core.List.{List, [], ◌∷◌}
+use Prim.Native.Nat.{ℕ, ◌+◌}
+use mathlib.Core.Path.{◌≡◌, refl, sym, ◌∙◌}
+use mathlib.Core.List.{List, []}
 use native.Mathlib.Omega.{arith}
 use Rattle.network.specs.Network.{network_of}
 use Rattle.table.specs.Table.{table_of}

@@ -1,5 +1,5 @@
 -- `fresh::homes::all_homes` meets its contract. The invariant: the homes of the nodes before this one are set.
-use Prim.Native.Nat.{◌+◌, ◌-◌, ◌*◌}
+use Prim.Native.Nat.{◌+◌, ◌*◌}
 use mathlib.Core.Path.{◌≡◌, sym, ap, ◌∙◌}
 use native.Mathlib.Omega.{arith}
 use Rattle.words.specs.Words.{ones_in}

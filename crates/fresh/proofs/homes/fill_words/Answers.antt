@@ -1,5 +1,5 @@
 -- `fresh::homes::fill_words` meets its contract. The invariant: the elements before i are filled.
-use Prim.Native.Nat.{ℕ, ◌-◌}
+use Prim.Native.Nat.{ℕ}
 use native.Mathlib.Omega.{arith}
 use mathlib.Core.Path.{◌≡◌, refl, ◌∙◌}
 use lib.ListN.{length-set}

@@ -1,5 +1,5 @@
 -- `fresh::homes::node_homes` meets its contract. The invariant: the homes before protocol x of the node are set.
-use Prim.Native.Nat.{◌+◌, ◌-◌, ◌*◌, ◌/◌, ◌≤◌, ◌<◌}
+use Prim.Native.Nat.{◌+◌, ◌*◌, ◌/◌, ◌≤◌, ◌<◌}
 use mathlib.Core.Path.{◌≡◌, refl, sym, ap, ◌∙◌}
 use native.Mathlib.Omega.{arith}
 use Rattle.bits.proofs.Counts.{ones_le}
@@ -83,24 +83,27 @@ loop-x-preserved c =
     let answer = sym c.accepts.ensures in
     let word = c.neighbours-word in
     let ones = c.ones-each in
-    elim c.if-accepts.branch [ then-accepts w ↦ (
-      omega arith,
-      w.cost-is ∙ turn_set c.args.n c.args.p c.args.stacks c.requires.0 c.args.functions.now (λ i. 0) no_row c.args.node c.requires.1 l.cost l.x 0 low (answer ∙ w.if-accepts.true) refl l.invariant.1,
-      w.waiting-is
-          ∙ turn_set c.args.n c.args.p c.args.stacks c.requires.0 c.args.functions.now (λ i. neighbours_at c.args.n c.args.links.now (i / c.args.stacks / c.args.n)) 0 c.args.node c.requires.1 l.waiting l.x word.result low (answer ∙ w.if-accepts.true)
-          (word.ensures ∙ ap (neighbours_at c.args.n c.args.links.now) (sym (place_node c.args.n c.args.p c.args.stacks c.requires.0 c.args.node l.x c.requires.1 low)))
-          l.invariant.2,
-      w.messages-is
-          ∙ messages_more c.args.n c.args.p c.args.stacks c.requires.0 c.args.functions.now _ c.args.node l.x c.requires.1 low l.waiting l.invariant.2 l.messages ones.result word.result ones.ensures l.invariant.3
-          ∙ ap ones_in (sym w.waiting-is),
-    ) | else-accepts w ↦ (
-      omega arith,
-      w.cost-is ∙ turn_skip c.args.n c.args.p c.args.stacks c.requires.0 c.args.functions.now (λ i. 0) no_row c.args.node c.requires.1 l.cost l.x low (answer ∙ w.if-accepts.false) l.invariant.1,
-      w.waiting-is
-          ∙ turn_skip c.args.n c.args.p c.args.stacks c.requires.0 c.args.functions.now (λ i. neighbours_at c.args.n c.args.links.now (i / c.args.stacks / c.args.n)) 0 c.args.node c.requires.1 l.waiting l.x low (answer ∙ w.if-accepts.false)
-          l.invariant.2,
-      w.messages-is ∙ l.invariant.3 ∙ ap ones_in (sym w.waiting-is),
-    ) ]
+    elim c.if-accepts.branch [
+      | then-accepts w ↦ (
+        omega arith,
+        w.cost-is ∙ turn_set c.args.n c.args.p c.args.stacks c.requires.0 c.args.functions.now (λ i. 0) no_row c.args.node c.requires.1 l.cost l.x 0 low (answer ∙ w.if-accepts.true) refl l.invariant.1,
+        w.waiting-is
+            ∙ turn_set c.args.n c.args.p c.args.stacks c.requires.0 c.args.functions.now (λ i. neighbours_at c.args.n c.args.links.now (i / c.args.stacks / c.args.n)) 0 c.args.node c.requires.1 l.waiting l.x word.result low (answer ∙ w.if-accepts.true)
+            (word.ensures ∙ ap (neighbours_at c.args.n c.args.links.now) (sym (place_node c.args.n c.args.p c.args.stacks c.requires.0 c.args.node l.x c.requires.1 low)))
+            l.invariant.2,
+        w.messages-is
+            ∙ messages_more c.args.n c.args.p c.args.stacks c.requires.0 c.args.functions.now _ c.args.node l.x c.requires.1 low l.waiting l.invariant.2 l.messages ones.result word.result ones.ensures l.invariant.3
+            ∙ ap ones_in (sym w.waiting-is),
+      )
+      | else-accepts w ↦ (
+        omega arith,
+        w.cost-is ∙ turn_skip c.args.n c.args.p c.args.stacks c.requires.0 c.args.functions.now (λ i. 0) no_row c.args.node c.requires.1 l.cost l.x low (answer ∙ w.if-accepts.false) l.invariant.1,
+        w.waiting-is
+            ∙ turn_skip c.args.n c.args.p c.args.stacks c.requires.0 c.args.functions.now (λ i. neighbours_at c.args.n c.args.links.now (i / c.args.stacks / c.args.n)) 0 c.args.node c.requires.1 l.waiting l.x low (answer ∙ w.if-accepts.false)
+            l.invariant.2,
+        w.messages-is ∙ l.invariant.3 ∙ ap ones_in (sym w.waiting-is),
+      )
+    ]
 
 pub returns : goal.returns
 returns c =

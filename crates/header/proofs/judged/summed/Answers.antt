@@ -1,5 +1,4 @@
 -- `header::judged::summed` meets its contract: after i turns, total is the sum of the first i words.
-use Prim.Native.Nat.{◌-◌}
 use mathlib.Core.Path.{refl, ap, ◌∙◌}
 use native.Mathlib.Nat.{le_antisymm}
 use native.Mathlib.Omega.{arith}

@@ -1,6 +1,6 @@
 -- `run::search::search_flagged` meets its contract. The invariant: the nodes that are passed hold nothing, so the search from here on has the answer
 -- of the whole search; and the flags are right.
-use Prim.Native.Nat.{◌+◌, ◌*◌, ◌-◌, ◌≤◌}
+use Prim.Native.Nat.{◌+◌, ◌*◌, ◌≤◌}
 use native.Mathlib.Omega.{arith}
 use borrow.Author.Rules.{rules}
 use lib.ListN.{length}

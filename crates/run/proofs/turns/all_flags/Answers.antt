@@ -1,5 +1,5 @@
 -- `run::turns::all_flags` meets its contract: after d turns the word has the bits below d.
-use Prim.Native.Nat.{ℕ, ◌-◌}
+use Prim.Native.Nat.{ℕ}
 use mathlib.Core.Path.{refl, sym, ap, ◌∙◌}
 use mathlib.Core.Bool.{true}
 use native.Mathlib.Nat.{le_antisymm}

@@ -1,5 +1,5 @@
 -- `run::turns::all_grids` meets its contract. The invariant: the grids before the node are those of the nodes.
-use Prim.Native.Nat.{ℕ, ◌-◌}
+use Prim.Native.Nat.{ℕ}
 use native.Mathlib.Omega.{arith}
 use mathlib.Core.Path.{◌≡◌, refl}
 use mathlib.Core.List.{List, []}

@@ -1,5 +1,5 @@
 -- `run::turns::all_neighbours` meets its contract. The invariant: the words before the node are those of the nodes.
-use Prim.Native.Nat.{ℕ, ◌-◌}
+use Prim.Native.Nat.{ℕ}
 use native.Mathlib.Omega.{arith}
 use mathlib.Core.Path.{◌≡◌, refl}
 use lib.ListN.{length-set}

@@ -1,5 +1,5 @@
 -- `run::turns::take_turns` meets its contract: each turn is a turn of the run, and the flags stay right.
-use Prim.Native.Nat.{◌+◌, ◌-◌, ◌≤◌}
+use Prim.Native.Nat.{◌+◌, ◌≤◌}
 use mathlib.Core.Path.{refl, sym}
 use native.Mathlib.Omega.{arith}
 use Rattle.network.specs.Network.{network_of}

@@ -1,12 +1,9 @@
 -- `waiting::search::search` meets its contract. The invariants: nothing is found yet, and the search from here on has the answer of the whole
 -- search; in a word that is not 0, no bit below `bit` is set.
 use mathlib.Core.Path.{refl, sym, ◌∙◌}
-use mathlib.Core.Bool.{false}
-use Prim.Native.Nat.{◌-◌}
 use native.Mathlib.Omega.{arith}
 use borrow.Author.Rules.{rules}
 use borrow.Author.Count.{below_more}
-use Rattle.bits.specs.Bits.{has}
 use Rattle.bits.proofs.Laws.{no_bit}
 use Rattle.table.proofs.Walk.{AtRow, at_start, at_row, row_inside, row_passed, bit_found, node_passed, all_passed}
 use Rattle.waiting.proofs.search.search.Goals as goal
