@@ -11,7 +11,7 @@ use journey::travel;
 use packet::Packet;
 
 // How far a packet came: hops, the cost spent on them, the node and stack number reached, and the refusal that stopped it, 0 where delivered.
-#[derive(Drop)]
+#[derive(Clone, Copy)]
 pub struct Carried {
     pub hops: u64,
     pub spent: u64,

@@ -12,7 +12,7 @@ use packet::Packet;
 use row::look;
 
 // A lookup's answer: delivered here, forward (next node, function, resulting stack number, cost), or the refusal's number.
-#[derive(Drop)]
+#[derive(Clone, Copy)]
 pub enum Look {
     Delivered,
     Forward(usize, usize, usize, u32),

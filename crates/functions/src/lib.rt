@@ -8,7 +8,7 @@ ghost use Rattle.functions.specs.Answers.{applied_of, move_number, moved_of, inv
 use stacks::Answer;
 
 // What a function makes of the stack of a number: the number of the new stack, or that it is not applicable there, or the refusal's number.
-#[derive(Drop)]
+#[derive(Clone, Copy)]
 pub enum After {
     Number(usize),
     NotApplicable,

@@ -11,7 +11,7 @@ use fields::by_version;
 use judged::{rest_judged, version_fits};
 
 // The header's protocol, where what follows it begins, where its packet ends, and the version of the header that follows (0 for none); or the refusal.
-#[derive(Drop)]
+#[derive(Clone, Copy)]
 pub enum Header {
     Right(usize, usize, usize, usize),
     Refused(u32),

@@ -6,7 +6,7 @@ ghost use Rattle.headers.specs.Steps.{chained_of};
 use header::Header;
 
 // The stack's number and where the innermost part begins and ends; or the refusal, the header that met it and where that starts.
-#[derive(Drop)]
+#[derive(Clone, Copy)]
 pub(crate) enum Chained {
     Found(usize, usize, usize),
     Refused(u32, usize, usize),

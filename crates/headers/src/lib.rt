@@ -11,7 +11,7 @@ use stacks::Answer;
 
 // The stack's height and number, and where the innermost packet's part after its header begins and ends; or the refusal, the header that met
 // it (0 is the outermost) and where that header starts.
-#[derive(Drop)]
+#[derive(Clone, Copy)]
 pub enum Read {
     Stack(usize, usize, usize, usize),
     Refused(u32, usize, usize),

@@ -6,7 +6,7 @@ ghost use Rattle.hear.specs.Answers.{gateway_of, message_of, rows_of, refused_by
 ghost use Rattle.hear.specs.Steps.{candidate_of, offer_of, Parted, Priced};
 
 // How many rows took an offer, or the refusal's number.
-#[derive(Drop)]
+#[derive(Clone, Copy)]
 pub enum Heard {
     Rows(usize),
     Refused(u32),
@@ -14,7 +14,7 @@ pub enum Heard {
 
 // A function that makes the heard stack, by its kind: convert a to b, wrap a in b or unwrap a from b; and the number of the stack that it
 // makes it of, 0 where there is none.
-#[derive(Drop)]
+#[derive(Clone, Copy)]
 struct Candidate {
     kind: usize,
     a: usize,
@@ -23,7 +23,7 @@ struct Candidate {
 }
 
 // What a function offers: the place of the row, the cost and the way.
-#[derive(Drop)]
+#[derive(Clone, Copy)]
 struct Offer {
     place: usize,
     cost: u32,

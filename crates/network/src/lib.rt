@@ -7,7 +7,7 @@ ghost use Rattle.network.specs.Answers.{checked_of};
 ghost use Rattle.network.specs.Steps.{with_link, good_row, half_links};
 
 // How many stacks a valid network has, or the first refusal that applies.
-#[derive(Drop)]
+#[derive(Clone, Copy)]
 pub enum Checked {
     Stacks(usize),
     Refused(u32),

@@ -10,7 +10,7 @@ use network::Checked;
 use stacks::Answer;
 
 // How many stacks there are and the number of the packet's, or the refusal's number.
-#[derive(Drop)]
+#[derive(Clone, Copy)]
 pub enum Packet {
     Number(usize, usize),
     Refused(u32),

@@ -8,7 +8,7 @@ use headers::Read;
 use packing::packed_end;
 
 // Four numbers, and the refusal's, 0 where nothing is refused.
-#[derive(Drop)]
+#[derive(Clone, Copy)]
 pub(crate) struct Four {
     pub first: u64,
     pub second: u64,

@@ -14,7 +14,7 @@ use table::{Delivered, Ran};
 use words::Found;
 
 // What one turn did: how many rows took an offer; or the run ends, with the refusal's number, or with 0 since no message waits.
-#[derive(Drop)]
+#[derive(Clone, Copy)]
 pub(crate) enum Turn {
     Offers(usize),
     Ends(u32),

@@ -7,7 +7,7 @@ ghost use Rattle.stacks.specs.Answers.{count_of, number_of, height_of, out_of};
 ghost use Rattle.stacks.specs.Steps.{scan};
 
 // A number, or the refusal's number.
-#[derive(Drop)]
+#[derive(Clone, Copy)]
 pub enum Answer {
     Value(usize),
     Refused(u32),

@@ -12,7 +12,7 @@ use hear::Heard;
 use table::Delivered;
 
 // What the message tells of: where the sender's row stands and what it costs; or the refusal's number.
-#[derive(Drop)]
+#[derive(Clone, Copy)]
 enum Told {
     Row(usize, u32),
     Refused(u32),

@@ -4,14 +4,14 @@
 pub mod ready;
 
 // How many messages wait, or the refusal's number.
-#[derive(Drop)]
+#[derive(Clone, Copy)]
 pub enum Counted {
     Messages(u64),
     Refused(u32),
 }
 
 // The first message that waits: sender, destination, stack number and receiver.
-#[derive(Drop)]
+#[derive(Clone, Copy)]
 pub enum First {
     Message(usize, usize, usize, usize),
     Quiet,
@@ -19,14 +19,14 @@ pub enum First {
 }
 
 // How many rows took an offer, or the refusal's number.
-#[derive(Drop)]
+#[derive(Clone, Copy)]
 pub enum Delivered {
     Rows(usize),
     Refused(u32),
 }
 
 // Deliveries done, the offers that rows took, and the refusal that ended the run, 0 where none did.
-#[derive(Drop)]
+#[derive(Clone, Copy)]
 pub struct Ran {
     pub done: u32,
     pub offers: u64,

@@ -5,7 +5,7 @@ ghost use Rattle.std.specs.Prelude.{◌≡◌, min, ◌≤◌, length};
 ghost use Rattle.words.specs.Words.{ones_answer, first_between};
 
 // Where a search ended: the place of a word in the slice, and the number of its lowest bit.
-#[derive(Drop)]
+#[derive(Clone, Copy)]
 pub enum Found {
     Nowhere,
     At(usize, usize),
