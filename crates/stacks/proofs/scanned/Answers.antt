@@ -20,7 +20,7 @@ pub loop-i-init : goal.loop-i-init
 loop-i-init c = (omega arith, refl, omega arith)
 
 pub overflow_cast-q : goal.overflow_cast-q
-overflow_cast-q c = omega (arith, c.shared_slice_known-1.given c.loop-i.i)
+overflow_cast-q c = omega (arith, c.type_inv.stack c.loop-i.i)
 
 pub returns-then-p-q : goal.returns-then-p-q
 returns-then-p-q c =

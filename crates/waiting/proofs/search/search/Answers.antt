@@ -50,7 +50,7 @@ loop-bit-preserved c =
 
 pub loop-row-preserved : goal.loop-row-preserved
 loop-row-preserved c =
-    absurd (c.if-word-eq0.false (no_bit _ (λ k l. c.loop-bit.invariant.2 k (omega arith)) (c.shared_slice_known-in-loop-row-1.given _).fits))
+    absurd (c.if-word-eq0.false (no_bit _ (λ k l. c.loop-bit.invariant.2 k (omega arith)) (c.type_inv.waiting _).fits))
 
 pub table-preserved : goal.table-preserved
 table-preserved c =
@@ -64,6 +64,6 @@ returns-after-table c =
 
 pub returns-then-has : goal.returns-then-has
 returns-then-has c =
-    let fits = (c.shared_slice_known-in-loop-row-1.given _).fits in
+    let fits = (c.type_inv.waiting _).fits in
     let bits = c.loop-bit in
     bit_found (at-this-row (goal.at.returns-then-has c).In-loop-row) bits.bit fits c.if-word-eq0.false bits.invariant.2 (sym c.has.ensures ∙ c.if-has.true)
