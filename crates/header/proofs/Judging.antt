@@ -97,10 +97,10 @@ module _ (packet : List ℕ) (s e : ℕ) (q : Fits packet s e) {v : ℕ} (is : v
     pub bad_checksum : (total ≡ 65535 → ⊥) → 65 ≡ rest_refusal packet s e
     bad_checksum wrong = simp (q.header, q.length, checksum_is, ne_eqb total 65535 wrong)
 
-    module _ (summed : total ≡ 65535) {word : ℕ} (is_Is_word : word ≡ pair packet s 6) where
+    module _ (summed : total ≡ 65535) {word : ℕ} (is_word : word ≡ pair packet s 6) where
       whole_is : ok_whole packet s ≡ eqb (word % 16384) 0
       unfolding ok_whole
-      whole_is = simp (ne_eqb (version packet s) 6 (λ z. other (is ∙ z)), is_Is_word)
+      whole_is = simp (ne_eqb (version packet s) 6 (λ z. other (is ∙ z)), is_word)
 
       pub fragment : (word % 16384 ≡ 0 → ⊥) → 66 ≡ rest_refusal packet s e
       fragment part = simp (q.header, q.length, checksum_is, eq-eqb total 65535 summed, whole_is, ne_eqb (word % 16384) 0 part)

@@ -61,7 +61,7 @@ module _ (net : Network) (ok : Network16 net) (t : Table) (r : Reached net t) (U
       )
 
   -- ---- a row with a cost that is not a home
-  pub record Goes_on : Type 0 where
+  pub record GoesOn : Type 0 where
     -- the hop is one that the node may perform, over a link
     pub can_it : can net U (function_of net t U D N) ≡ true
     pub linked : present net U (next_of net t U D N) ≡ true
@@ -90,7 +90,7 @@ module _ (net : Network) (ok : Network16 net) (t : Table) (r : Reached net t) (U
         (λ h. h)
         ((sound (graph_of net D) (reached net ok D a.destination r)).known (vertex net U N) (λ z. priced (sym (cost_is net U D N a.node a.stack t) ∙ z)))
 
-    pub goes_on : Goes_on
+    pub goes_on : GoesOn
     goes_on =
         let l = led net ok r U D N a priced in
         let m = within net.p net.h M (leads net.p net.h f N M l.makes).to in
