@@ -1,6 +1,4 @@
 // Measures the library's calls against an independent Rust implementation of them, in one process, each figure the median of turns taken alternately.
-// Usage: bench [emulated]. It has no ordinary Rust start: that one dies under the emulator of Arm machines.
-#![no_main]
 
 mod agree;
 #[path = "../include/bannogwy.rs"]
@@ -20,8 +18,6 @@ mod rust_network;
 mod rust_run;
 mod rust_table;
 
-use std::ffi::CStr;
-use std::os::raw::c_char;
 use std::time::Duration;
 
 // how much is measured: `deliveries` is the most of one run, `rounds` how often a set of packets is carried
@@ -34,8 +30,6 @@ pub struct Scale {
 
 const FULL: Scale =
     Scale { turns: clock::Turns { least: 3, budget: Duration::from_secs(2) }, deliveries: 3_000_000, packets: 4_000, rounds: 20 };
-const EMULATED: Scale =
-    Scale { turns: clock::Turns { least: 1, budget: Duration::from_secs(1) }, deliveries: 100_000, packets: 500, rounds: 1 };
 
 fn measure(report: &mut report::Report, scale: &Scale) -> agree::Outcome {
     agree::everywhere(&mut rng::Rng::new(9), 600)?;
@@ -46,16 +40,14 @@ fn measure(report: &mut report::Report, scale: &Scale) -> agree::Outcome {
     measure_tables::whole_tables(report, scale)
 }
 
-#[no_mangle]
-pub extern "C" fn main(argc: i32, argv: *const *const c_char) -> i32 {
-    let emulated = argc > 1 && unsafe { CStr::from_ptr(*argv.add(1)) }.to_bytes() == b"emulated";
-    let scale = if emulated { EMULATED } else { FULL };
-    let mut report = report::Report::new(emulated);
-    match measure(&mut report, &scale) {
+fn main() {
+    let mut report = report::Report::new();
+    let status = match measure(&mut report, &FULL) {
         Ok(()) => report.close(),
         Err(text) => {
             eprintln!("bench: {}", text);
             2
         }
-    }
+    };
+    std::process::exit(status);
 }

@@ -4,7 +4,6 @@ use crate::clock::Medians;
 pub struct Report {
     missed: Vec<String>,
     bars: usize,
-    emulated: bool,
 }
 
 // a time in nanoseconds, with a unit that suits it
@@ -17,13 +16,12 @@ fn readable(time: f64) -> String {
 }
 
 impl Report {
-    pub fn new(emulated: bool) -> Report {
-        Report { missed: Vec::new(), bars: 0, emulated }
+    pub fn new() -> Report {
+        Report { missed: Vec::new(), bars: 0 }
     }
 
     pub fn section(&self, title: &str) {
-        let label = if self.emulated { " (ratios under the emulator)" } else { "" };
-        println!("\n{}{}", title, label);
+        println!("\n{}", title);
         println!("{:<66} {:>11} {:>11} {:>7}  bar", "", "library", "Rust", "ratio");
     }
 

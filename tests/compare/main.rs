@@ -1,5 +1,5 @@
 // Compares the library with an independent program on random networks, broken tables and the specification's examples.
-// Usage: compare [tiny | quick | full] [seed]. It has no ordinary Rust start: that one dies under the emulator of Arm machines.
+// Usage: compare [tiny | quick | full] [seed]. It has C's start, and not Rust's.
 #![no_main]
 #![allow(unknown_lints)]
 #![allow(unexpected_cfgs)]

@@ -1,4 +1,4 @@
-// How much is compared: `full` on a desk, `quick` under an emulator, `tiny` for the programs with planted faults.
+// How much is compared: `full` on a desk, `quick` on a slow machine, `tiny` for the programs with planted faults.
 use crate::report::Outcome;
 
 #[derive(Clone, Copy, PartialEq, Eq, Debug)]

@@ -76,7 +76,7 @@ extern "C" fn faulted(signal: c_int) {
     unsafe { _exit(1) };
 }
 
-// one plain step after the other: the emulator's stack is not aligned here as compiled loops over arrays expect
+// one plain step after the other: the stack may not be aligned here as compiled loops over arrays expect
 extern "C" fn dying() {
     say("\nin ");
     say(KINDS[KIND.load(Relaxed)].name);
