@@ -47,7 +47,8 @@ word_of_fits (suc k) f = go (f k) (word_of_fits k f)
 set_above : (w k : ℕ) → w < 2 ^ k → w + 2 ^ k ≡ with_all w (2 ^ k)
 unfolding with_all
 set_above w k h =
-    let e : 2 ^ k + w ≡ bit_or w (2 ^ k) = ap (λ (x : ℕ). x + w) (sym (one-mul (2 ^ k))) ∙ sym (or_shifted_r 1 k w h) ∙ ap (λ (x : ℕ). bit_or w x) (one-mul (2 ^ k)) in
+    let e : 2 ^ k + w ≡ bit_or w (2 ^ k) = ap (λ (x : ℕ). x + w) (sym (one-mul (2 ^ k))) ∙ sym (or_shifted_r 1 k w h)
+    ∙ ap (λ (x : ℕ). bit_or w x) (one-mul (2 ^ k)) in
     add_comm w (2 ^ k) ∙ e
 
 -- one test more is one step of `with_one`, where the test passes
@@ -87,13 +88,15 @@ more_bits : (k : ℕ) (f : ℕ → Bool) (v : ℕ) → has (word_of k f) v ≡ (
     → has (word_of k f + cond t (2 ^ k) 0) v ≡ (ltb v (suc k) && f v)
 more_bits k f v so_far true e (yes q) =
     ap (λ (x : ℕ). has x v) (set_above (word_of k f) k (word_of_fits k f))
-    ∙ subst (λ (n : ℕ). has (with_all (word_of k f) (2 ^ k)) n ≡ (ltb n (suc k) && f n)) (sym q) (set_bit k f ∙ sym (ap₂ ◌&&◌ (lt-ltb k (suc k) (omega arith)) e))
+    ∙ subst (λ (n : ℕ). has (with_all (word_of k f) (2 ^ k)) n ≡ (ltb n (suc k) && f n)) (sym q) (set_bit k f
+    ∙ sym (ap₂ ◌&&◌ (lt-ltb k (suc k) (omega arith)) e))
 more_bits k f v so_far true e (no ne) =
     ap (λ (x : ℕ). has x v) (set_above (word_of k f) k (word_of_fits k f)) ∙ other_bit k f v ne
     ∙ so_far ∙ sym (ap (λ (t : Bool). t && f v) (ltb_suc v k ne))
 more_bits k f v so_far false e (yes q) =
     ap (λ (x : ℕ). has x v) (add-zero (word_of k f)) ∙ so_far
-    ∙ subst (λ (n : ℕ). (ltb n k && f n) ≡ (ltb n (suc k) && f n)) (sym q) (ap₂ ◌&&◌ (le-ltb k k (omega arith)) e ∙ sym (ap₂ ◌&&◌ (lt-ltb k (suc k) (omega arith)) e))
+    ∙ subst (λ (n : ℕ). (ltb n k && f n) ≡ (ltb n (suc k) && f n)) (sym q) (ap₂ ◌&&◌ (le-ltb k k (omega arith)) e
+    ∙ sym (ap₂ ◌&&◌ (lt-ltb k (suc k) (omega arith)) e))
 more_bits k f v so_far false e (no ne) =
     ap (λ (x : ℕ). has x v) (add-zero (word_of k f)) ∙ so_far ∙ sym (ap (λ (t : Bool). t && f v) (ltb_suc v k ne))
 

@@ -53,7 +53,8 @@ module _ (net : Network) where
         let w = is_vertex net v b in
         cost_inside net D (fresh net) v b ∙ fresh_cost (vertex_node net v) D (vertex_number net v) d w.stack w.node
 
-    waiting_at : (v U : ℕ) → v < rows_each net → vertex_waiting net D (fresh net) v U ≡ has (cond (home net (vertex_node net v) D (vertex_number net v)) (neighbours net (vertex_node net v)) 0) U
+    waiting_at : (v U : ℕ) → v < rows_each net → vertex_waiting net D (fresh net) v U ≡ has (cond (home net (vertex_node net v) D (vertex_number net v))
+        (neighbours net (vertex_node net v)) 0) U
     waiting_at v U b =
         let w = is_vertex net v b in
         waiting_inside net D (fresh net) v U b ∙ ap (λ (x : ℕ). has x U) (fresh_waiting (vertex_node net v) D (vertex_number net v) d w.stack w.node)

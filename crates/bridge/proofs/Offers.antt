@@ -47,7 +47,8 @@ module _ (net : Network) (t : Table) (Q U D N : ℕ) (go : Goes net t Q U D N) w
         ∙ sym (leader_about net (told net t Q U D N) U (vertex_number net u))
 
     -- "the offer is c + link(U,V) + price(U,f)"
-    offer_weight : offer_to net t Q U D N (vertex_number net u) ≡ get_or t.cost (place net Q D N) 0 + weight net U (leader_of net t Q U D N (vertex_number net u)) Q
+    offer_weight : offer_to net t Q U D N (vertex_number net u) ≡ get_or t.cost (place net Q D N) 0 + weight net U
+        (leader_of net t Q U D N (vertex_number net u)) Q
     unfolding offer weight price
     offer_weight = omega arith
 
@@ -61,14 +62,16 @@ module _ (net : Network) (t : Table) (Q U D N : ℕ) (go : Goes net t Q U D N) w
     own_cost b = cost_inside net D t u b ∙ ap (λ (i : ℕ). get_or t.cost i 0) row_mine
 
     -- the function makes of u's stack the one that was heard of
-    leads_here : refusal_of net ≡ 0 → Hops net u heard_of → applied_of net.p net.h (leader_of net t Q U D N (vertex_number net u)) (vertex_number net u) ≡ After.Number N
+    leads_here : refusal_of net ≡ 0 → Hops net u heard_of → applied_of net.p net.h (leader_of net t Q U D N (vertex_number net u)) (vertex_number net u)
+        ≡ After.Number N
     leads_here right hop =
         ap (λ (f : ℕ). applied_of net.p net.h f (vertex_number net u)) (sym function_leader)
         ∙ (hop_by net right u heard_of hop).makes
         ∙ ap After.Number (vertex_number_lem net Q N go.stack)
 
     -- so the way of a row that takes its offer names the vertex that was heard of
-    pub way_leads : refusal_of net ≡ 0 → Hops net u heard_of → leads_to net (256 * Q + leader_of net t Q U D N (vertex_number net u)) (vertex_number net u) ≡ heard_of
+    pub way_leads : refusal_of net ≡ 0 → Hops net u heard_of → leads_to net (256 * Q + leader_of net t Q U D N (vertex_number net u)) (vertex_number net u)
+        ≡ heard_of
     unfolding leads_to
     way_leads right hop =
         let f = leader_of net t Q U D N (vertex_number net u) in

@@ -47,7 +47,8 @@ module _ (net : Network) (right : refusal_of net ≡ 0) (t : Table) (sized : Siz
     row = row_mine net t Q U D N go u k.mine
 
     changed : Changes net t Q U D N sized go.receiver D (vertex_number net u) go.destination (is_vertex net u inside).stack
-    changed = changes net t Q U D N sized go.receiver D (vertex_number net u) go.destination (is_vertex net u inside).stack (takes_took net t Q U D N go u k.mine k)
+    changed = changes net t Q U D N sized go.receiver D (vertex_number net u) go.destination (is_vertex net u inside).stack
+        (takes_took net t Q U D N go u k.mine k)
 
     take_cost : vertex_cost net D later u ≡ vertex_cost net D t (vertex net Q N) + weight_of net u (vertex net Q N)
     take_cost =
@@ -65,7 +66,8 @@ module _ (net : Network) (right : refusal_of net ≡ 0) (t : Table) (sized : Siz
     -- the row is not the message's own
     untouched : get_or (cleared net t Q U D N).waiting (place net U D (vertex_number net u)) 0 ≡ get_or t.waiting (place net U D (vertex_number net u)) 0
     untouched = kept_row net t Q U D N sized (place net U D (vertex_number net u))
-        (λ e. others net U Q right go.linked (sym (same_row net U D (vertex_number net u) Q D N go.destination go.destination (is_vertex net u inside).stack go.stack e).nodes))
+        (λ e. others net U Q right go.linked (sym (same_row net U D (vertex_number net u) Q D N go.destination go.destination (is_vertex net u inside).stack
+        go.stack e).nodes))
 
     take_tells : (W : ℕ) → vertex_waiting net D later u W ≡ (vertex_waiting net D t u W || present net (vertex_node net u) W)
     take_tells W =
@@ -138,7 +140,8 @@ module _ (net : Network) (right : refusal_of net ≡ 0) (t : Table) (sized : Siz
 
   delivers : Deliver (graph_of net D) (state_of net D t) (state_of net D later) (vertex net Q N) U
   delivers = record {
-    waits = waiting_inside net D t (vertex net Q N) U (heard_below net t Q U D N go) ∙ ap (λ (i : ℕ). has (get_or t.waiting i 0) U) (heard_row net t Q U D N go) ∙ go.waiting;
+    waits = waiting_inside net D t (vertex net Q N) U (heard_below net t Q U D N go) ∙ ap (λ (i : ℕ). has (get_or t.waiting i 0) U)
+        (heard_row net t Q U D N go) ∙ go.waiting;
     take_cost = take_cost;
     take_next = take_next;
     take_waiting = λ u W k e. take_tells u k W ∙ ap (λ (b : Bool). vertex_waiting net D t u W || b) e ∙ or-true (vertex_waiting net D t u W);
@@ -161,7 +164,8 @@ module _ (net : Network) (t : Table) (sized : Sized net t) (Q U E N : ℕ) (go :
 
   module _ (v : ℕ) (b : v < rows_each net) where
     away : Stays net t Q U E N sized go.receiver D (vertex_number net v) d (is_vertex net v b).stack (vertex_node net v)
-    away = stays net t Q U E N sized go.receiver D (vertex_number net v) d (is_vertex net v b).stack (vertex_node net v) (λ mine. not_taken (vertex_number net v))
+    away = stays net t Q U E N sized go.receiver D (vertex_number net v) d (is_vertex net v b).stack (vertex_node net v)
+        (λ mine. not_taken (vertex_number net v))
 
     away_waiting : get_or (delivered net t Q U E N).waiting (vertex_place net D v) 0 ≡ get_or t.waiting (vertex_place net D v) 0
     away_waiting = away.waiting ∙ kept_row net t Q U E N sized (vertex_place net D v)
@@ -173,7 +177,8 @@ module _ (net : Network) (t : Table) (sized : Sized net t) (Q U E N : ℕ) (go :
         (λ b. cost_inside net D t v b ∙ sym (away v b).cost ∙ sym (cost_inside net D (delivered net t Q U E N) v b))
         (λ n. let b : rows_each net ≤ v = omega arith in cost_outside net D t v b ∙ sym (cost_outside net D (delivered net t Q U E N) v b));
     same_next = λ v. by_cases (dec_lt v (rows_each net))
-        (λ b. next_inside net D t v b ∙ ap (λ (w : ℕ). leads_to net w (vertex_number net v)) (sym (away v b).way) ∙ sym (next_inside net D (delivered net t Q U E N) v b))
+        (λ b. next_inside net D t v b ∙ ap (λ (w : ℕ). leads_to net w (vertex_number net v)) (sym (away v b).way)
+        ∙ sym (next_inside net D (delivered net t Q U E N) v b))
         (λ n. let b : rows_each net ≤ v = omega arith in next_outside net D t v b ∙ sym (next_outside net D (delivered net t Q U E N) v b));
     same_waiting = λ v W. by_cases (dec_lt v (rows_each net))
         (λ b. waiting_inside net D t v W b ∙ ap (λ (w : ℕ). has w W) (sym (away_waiting v b)) ∙ sym (waiting_inside net D (delivered net t Q U E N) v W b))

@@ -31,7 +31,8 @@ module _ (net : Network) where
   hops_facts : (u v : ℕ) → hops net u v ≡ true → Hops u v
   unfolding hops
   hops_facts u v e =
-      let a = both (ltb u (rows_each net)) (ltb v (rows_each net) && (present net (vertex_node net u) (vertex_node net v) && ltb (function_between net u v) 192)) e in
+      let a = both (ltb u (rows_each net)) (ltb v (rows_each net) && (present net (vertex_node net u) (vertex_node net v) && ltb (function_between net u v)
+      192)) e in
       let b = both (ltb v (rows_each net)) (present net (vertex_node net u) (vertex_node net v) && ltb (function_between net u v) 192) a.1 in
       let c = both (present net (vertex_node net u) (vertex_node net v)) (ltb (function_between net u v) 192) b.1 in
       record {
@@ -68,7 +69,12 @@ module _ (net : Network) (right : refusal_of net ≡ 0) where
   lawful numbers D = record {
     room = omega (arith, (valid net right).room);
     hop_from = λ u v h. (weight_hop net u v h).from;
-    hop_most = λ u v h. omega (arith, hop_weight net u v (weight_hop net u v h), weight_most net (vertex_node net u) (function_between net u v) (vertex_node net v) numbers.links numbers.functions);
+    hop_most = λ u v h. omega (
+      arith,
+      hop_weight net u v (weight_hop net u v h),
+      weight_most net (vertex_node net u) (function_between net u v)
+          (vertex_node net v) numbers.links numbers.functions,
+    );
     hop_heard = λ u v h. (valid net right).two_way (vertex_node net v) (vertex_node net u) ∙ (weight_hop net u v h).linked;
     home_below = λ v h. home_vertex net D v h;
   }

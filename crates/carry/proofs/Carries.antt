@@ -37,7 +37,8 @@ module _ (net : Network) (t : Table) (U D : ℕ) (stack : List ℕ) (limit : ℕ
   -- the limit is tested last
   last : tested net t U D stack far (stop 0 0) ≡ carry_of net t U D stack limit
   unfolding carry_of far
-  last = ap (λ (j : Journey). cond (eqb (refusal net t) 0) j (stop 0 0 (refusal net t))) (one_by_one (ok_packet net U D stack) (leb limit 16384) (journey net t D limit U (number net.p stack)) (stop 0 0 4))
+  last = ap (λ (j : Journey). cond (eqb (refusal net t) 0) j (stop 0 0 (refusal net t))) (one_by_one (ok_packet net U D stack) (leb limit 16384)
+      (journey net t D limit U (number net.p stack)) (stop 0 0 4))
 
   module _ (s N : ℕ) {k : Packet} (tells : k ≡ packet_of net t U D stack) (told : k ≡ Packet.Number s N) where
     pub stands : Placed net s U D N

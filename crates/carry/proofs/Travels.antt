@@ -65,7 +65,8 @@ pub record Going (net : Network) (cost way : List ℕ) (D limit U₀ N₀ hops s
   pub here : U < net.n
   pub numbered : 1 ≤ N
   pub most : N ≤ stacks net
-  pub whole : (waiting : List ℕ) → journey net (table_of cost way waiting) D limit U₀ N₀ ≡ further hops spent (journey net (table_of cost way waiting) D (limit - hops) U N)
+  pub whole : (waiting : List ℕ) → journey net (table_of cost way waiting) D limit U₀ N₀ ≡ further hops spent (journey net (table_of cost way waiting) D
+      (limit - hops) U N)
 
 module _ (net : Network) (cost way : List ℕ) (D limit U₀ N₀ : ℕ) where
   pub starts : U₀ < net.n → 1 ≤ N₀ → N₀ ≤ stacks net → Going net cost way D limit U₀ N₀ 0 0 U₀ N₀
@@ -83,7 +84,8 @@ module _ (net : Network) (cost way : List ℕ) (D limit U₀ N₀ : ℕ) where
 
   module _ (hops spent U N : ℕ) (g : Going net cost way D limit U₀ N₀ hops spent U N) where
     -- the packet stands at a node again, so what `look` answers is the lookup there
-    pub looks : (s : ℕ) → Placed net s U₀ D N₀ → {l : Look} → l ≡ look_of net s cost way U D N → (waiting : List ℕ) → l ≡ look_at net (table_of cost way waiting) U D N
+    pub looks : (s : ℕ) → Placed net s U₀ D N₀ → {l : Look} → l ≡ look_of net s cost way U D N → (waiting : List ℕ)
+        → l ≡ look_at net (table_of cost way waiting) U D N
     looks s q is waiting =
         is
         ∙ look_is net (table_of cost way waiting) s U D N
@@ -104,7 +106,8 @@ module _ (net : Network) (cost way : List ℕ) (D limit U₀ N₀ : ℕ) where
       limit_here a last h s u n r waiting =
           let none : limit - hops ≡ 0 = omega arith in
           ends_so (journey net (table_of cost way waiting) D limit U₀ N₀) hops spent U N 8 a
-          (g.whole waiting ∙ ap (further hops spent) (ap (λ (k : ℕ). journey net (table_of cost way waiting) D k U N) none ∙ may_not net (table_of cost way waiting) D U N W f M c (e waiting))) h s u n r
+          (g.whole waiting ∙ ap (further hops spent) (ap (λ (k : ℕ). journey net (table_of cost way waiting) D k U N) none
+          ∙ may_not net (table_of cost way waiting) D U N W f M c (e waiting))) h s u n r
 
       -- it does, and the hop is made
       pub goes_on : (x : ℕ) → hops < limit → x ≡ weight net U f W → x ≤ 131069 → Going net cost way D limit U₀ N₀ (hops + 1) (spent + x) W M
@@ -119,6 +122,8 @@ module _ (net : Network) (cost way : List ℕ) (D limit U₀ N₀ : ℕ) where
             whole = λ waiting.
                 let more : limit - hops ≡ suc (limit - (hops + 1)) = omega arith in
                 g.whole waiting
-                ∙ ap (further hops spent) (ap (λ (k : ℕ). journey net (table_of cost way waiting) D k U N) more ∙ hops_on net (table_of cost way waiting) D U N W f M c (e waiting) (limit - (hops + 1)))
-                ∙ journey_of _ (further (hops + 1) (spent + x) (journey net (table_of cost way waiting) D (limit - (hops + 1)) W M)) (omega arith) (omega arith) refl refl refl;
+                ∙ ap (further hops spent) (ap (λ (k : ℕ). journey net (table_of cost way waiting) D k U N) more ∙ hops_on net (table_of cost way waiting) D
+                U N W f M c (e waiting) (limit - (hops + 1)))
+                ∙ journey_of _ (further (hops + 1) (spent + x) (journey net (table_of cost way waiting) D (limit - (hops + 1)) W M)) (omega arith)
+                (omega arith) refl refl refl;
           }

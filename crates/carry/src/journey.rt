@@ -1,4 +1,5 @@
-// The hops of a packet, in a network and a table that `packet::begin` found right. (No code reads h: the contracts speak of the network, of which it is a part.)
+// The hops of a packet, in a network and a table that `packet::begin` found right. (No code reads h: the contracts speak of the network, of which it is a
+// part.)
 ghost use Rattle.std.specs.Prelude.{◌≡◌, List, ℕ, ◌≤◌, true};
 ghost use Rattle.network.specs.Network.{network_of};
 ghost use Rattle.gateways.specs.Gateways.{can, weight};

@@ -36,7 +36,8 @@ stack_count p h = one (pack_answer (count_of p h))
 pub number_of_lem : (p h : ℕ) (stack : List ℕ) → One (λ (r : ℕ). r ≡ pack_answer (number_of p h stack))
 number_of_lem p h stack = one (pack_answer (number_of p h stack))
 
-pub stack_of : (p h number : ℕ) (out : List ℕ) → OneBoth (λ (r : ℕ) (after : List ℕ). (r ≡ pack_answer (height_of p h number out)) × (after ≡ out_of p h number out))
+pub stack_of : (p h number : ℕ) (out : List ℕ) → OneBoth (λ (r : ℕ) (after : List ℕ). (r ≡ pack_answer (height_of p h number out))
+    × (after ≡ out_of p h number out))
 stack_of p h number out = both (pack_answer (height_of p h number out)) (out_of p h number out)
 
 pub applied : (p h f number : ℕ) → One (λ (r : ℕ). r ≡ pack_after (applied_of p h f number))

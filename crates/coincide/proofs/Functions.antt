@@ -72,7 +72,8 @@ inverse_of_lem p f = one (inverse_of p f)
 pub header_at : (packet : List ℕ) (s announced e : ℕ) → One (λ (r : Header). r ≡ header_of packet s announced e)
 header_at packet s announced e = one (header_of packet s announced e)
 
-pub read_stack : (h : ℕ) (packet out : List ℕ) → OneBoth (λ (r : Read) (after : List ℕ). (r ≡ headers.read_of h packet out) × (after ≡ headers.out_of h packet out))
+pub read_stack : (h : ℕ) (packet out : List ℕ) → OneBoth (λ (r : Read) (after : List ℕ). (r ≡ headers.read_of h packet out)
+    × (after ≡ headers.out_of h packet out))
 read_stack h packet out = both (headers.read_of h packet out) (headers.out_of h packet out)
 
 -- ---- bits and words

@@ -93,8 +93,15 @@ module _ (net : Network) (t : Table) (Q U D N : ℕ) where
       unfolding took
       did e =
           let a = both (eqb D D) _ e in
-          let b = both (ltb (leader_of net t Q U D N M) 192) _ a.1 in
-          (ltb-true _ 192 b.0, omega (arith, offered_is (leader_of net t Q U D N M), wins_below (offer_to net t Q U D N M) (get_or t.cost (place net U D M) 0) b.1))
+          let b = both (ltb (leader_of net t Q U D N M) 192) _ a.1 in (
+            ltb-true _ 192 b.0,
+            omega (
+              arith,
+              offered_is (leader_of net t Q U D N M),
+              wins_below (offer_to net t Q U D N M)
+                  (get_or t.cost (place net U D M) 0) b.1,
+            ),
+          )
 
       led : (f : ℕ) → Leads net U N M f → leader_of net t Q U D N M ≡ f
       unfolding can

@@ -27,7 +27,8 @@ pub fn deliver(
     number: usize,
 ) -> Delivered
     ensures { (result ≡ deliver_answer (network_of n p h links.now functions.now) (table_of cost.old way.old waiting.old) sender receiver destination number)
-        × (table_of cost.new way.new waiting.new ≡ deliver_table (network_of n p h links.now functions.now) (table_of cost.old way.old waiting.old) sender receiver destination number) }
+        × (table_of cost.new way.new waiting.new ≡ deliver_table
+        (network_of n p h links.now functions.now) (table_of cost.old way.old waiting.old) sender receiver destination number) }
 {
     match ready(
         n,

@@ -33,14 +33,16 @@ module _ (net : Network) (t : Table) (Q U D N : ℕ) where
   unfolding deliver_refusal
   deliver_few = go (eqb (refusal net t) 0) refl
     where
-      go : (b : Bool) → eqb (refusal net t) 0 ≡ b → (cond b (message_refusal net t Q U D N) (refusal net t) ≤ 7) × (cond b (message_refusal net t Q U D N) (refusal net t) ≡ 0 → refusal net t ≡ 0)
+      go : (b : Bool) → eqb (refusal net t) 0 ≡ b → (cond b (message_refusal net t Q U D N) (refusal net t) ≤ 7)
+          × (cond b (message_refusal net t Q U D N) (refusal net t) ≡ 0 → refusal net t ≡ 0)
       go true e = (step_few, λ d. eqb-true (refusal net t) 0 e)
       go false e = (omega (arith, refusal_few net t), λ d. d)
 
   pub deliver_fits : DeliveredFits (deliver_answer net t Q U D N)
   deliver_fits = go (eqb (deliver_refusal net t Q U D N) 0) refl
     where
-      go : (b : Bool) → eqb (deliver_refusal net t Q U D N) 0 ≡ b → DeliveredFits (cond b (Delivered.Rows (offers_taken net t Q U D N)) (Delivered.Refused (deliver_refusal net t Q U D N)))
+      go : (b : Bool) → eqb (deliver_refusal net t Q U D N) 0 ≡ b → DeliveredFits (cond b (Delivered.Rows (offers_taken net t Q U D N))
+          (Delivered.Refused (deliver_refusal net t Q U D N)))
       go true e =
           let r = ready_then net t (deliver_few.1 (eqb-true (deliver_refusal net t Q U D N) 0 e)) in
           omega (arith, offers_most net t Q U D N, (rows_few net t (stacks net) r).1)
@@ -53,7 +55,8 @@ module _ (net : Network) where
   turn_few rest less t (Found.At i U) = go (eqb (message_refusal net t (node_at net i) U (destination_at net i) (number_at net i)) 0)
     where
       go : (b : Bool) → (cond b
-          (one_more (offers_taken net t (node_at net i) U (destination_at net i) (number_at net i)) (rest (delivered net t (node_at net i) U (destination_at net i) (number_at net i))))
+          (one_more (offers_taken net t (node_at net i) U (destination_at net i) (number_at net i))
+          (rest (delivered net t (node_at net i) U (destination_at net i) (number_at net i))))
           (ends (message_refusal net t (node_at net i) U (destination_at net i) (number_at net i)) t)).refused ≤ 7
       go true = less (delivered net t (node_at net i) U (destination_at net i) (number_at net i))
       go false = step_few net t (node_at net i) U (destination_at net i) (number_at net i)

@@ -20,7 +20,8 @@ module _ (net : Network) (t : Table) where
   deliver_kept Q U D N = delivered_back (deliver_answer net t Q U D N) (deliver_fits net t Q U D N)
 
   -- from the answer, a slice that has room for the numbers, and the table
-  pub run_kept : (k : ℕ) (answer : List ℕ) → 2 ≤ length answer → unpack_run (run_packed net k t answer) (run_numbers net k t answer) (run_table net k t answer) ≡ run_of net k t
+  pub run_kept : (k : ℕ) (answer : List ℕ) → 2 ≤ length answer → unpack_run (run_packed net k t answer) (run_numbers net k t answer)
+      (run_table net k t answer) ≡ run_of net k t
   unfolding unpack_run run_packed run_numbers run_table
   run_kept k [] long = absurd (omega arith)
   run_kept k (x ∷ []) long = absurd (omega arith)

@@ -36,8 +36,10 @@ pub extern "C" fn bannogwy_deliver(
     destination: usize,
     number: usize,
 ) -> u64
-    ensures { (result ≡ pack_delivered (deliver_answer (network_of n p h links.now functions.now) (table_of cost.old way.old waiting.old) sender receiver destination number))
-        × (table_of cost.new way.new waiting.new ≡ deliver_table (network_of n p h links.now functions.now) (table_of cost.old way.old waiting.old) sender receiver destination number) }
+    ensures { (result ≡ pack_delivered (deliver_answer
+        (network_of n p h links.now functions.now) (table_of cost.old way.old waiting.old) sender receiver destination number))
+        × (table_of cost.new way.new waiting.new ≡ deliver_table
+        (network_of n p h links.now functions.now) (table_of cost.old way.old waiting.old) sender receiver destination number) }
 {
     packed_delivered(deliver::deliver(
         n,

@@ -19,7 +19,10 @@ use Rattle.carry.specs.Carry.{carry_of}
 use Rattle.examples.specs.Examples.{Examples}
 
 pub examples : Examples
-unfolding tabulate every some first_below how_many wins ok_size ok_number ok_stack ok_function ok_move has without with_all word_of lowest ones_of ones_in first_set_from first_in is_node link_at present neighbours_at word_at receives_at accepts ok_sizes ok_links refusal_of can price weight leads_by leader offer takes cost_at way_at waiting_at heard taken fresh home rows_in with_rows_in cleared_at delivered offers_taken ok_lengths refusal_by refusal ok_message_in waits_in ok_sender_in message_refusal_in deliver_refusal deliver_table run_of ok_row look_at ok_packet carry_of
+unfolding tabulate every some first_below how_many wins ok_size ok_number ok_stack ok_function ok_move has without with_all word_of lowest ones_of ones_in
+    first_set_from first_in is_node link_at present neighbours_at word_at receives_at accepts ok_sizes ok_links refusal_of can price weight leads_by leader
+    offer takes cost_at way_at waiting_at heard taken fresh home rows_in with_rows_in cleared_at delivered offers_taken ok_lengths refusal_by refusal
+    ok_message_in waits_in ok_sender_in message_refusal_in deliver_refusal deliver_table run_of ok_row look_at ok_packet carry_of
 examples = record {
   P1 = (refl, refl);
   P2 = (refl, refl);

@@ -39,16 +39,19 @@ abbrev after : Rows
 after = rows_of (set fresh.costs place 2) (set fresh.ways place (256 * 3 + (128 + 8 * 0 + 1))) (set fresh.waiting place 10)
 
 pub one_row : (hear_answer node2 from3 fresh ≡ Heard.Rows 1) × (rows_after node2 from3 fresh ≡ after)
-unfolding hear_refusal ok_hearing rows_after heard taken takes cost_at way_at waiting_at leader leads_by offer tabulate first_below how_many wins ok_move ok_function with_all
+unfolding hear_refusal ok_hearing rows_after heard taken takes cost_at way_at waiting_at leader leads_by offer tabulate first_below how_many wins ok_move
+    ok_function with_all
 one_row = (refl, refl)
 
 -- the same message again offers no less, so that no row takes it
 pub again : (hear_answer node2 from3 after ≡ Heard.Rows 0) × (rows_after node2 from3 after ≡ after)
-unfolding hear_refusal ok_hearing rows_after heard taken takes cost_at way_at waiting_at leader leads_by offer tabulate first_below how_many wins ok_move ok_function with_all
+unfolding hear_refusal ok_hearing rows_after heard taken takes cost_at way_at waiting_at leader leads_by offer tabulate first_below how_many wins ok_move
+    ok_function with_all
 again = (refl, refl)
 
 -- a stack number that is not there, and a cost above the ceiling
 pub refusals : (hear_answer node2 (message_of 3 3 7 0 1) fresh ≡ Heard.Refused 4) × (hear_answer node2 (message_of 3 3 1 2147303428 1) fresh ≡ Heard.Refused 7)
     × (rows_after node2 (message_of 3 3 1 2147303428 1) fresh ≡ fresh)
-unfolding hear_refusal ok_hearing rows_after heard taken takes cost_at way_at waiting_at leader leads_by offer tabulate first_below how_many wins ok_move ok_function with_all
+unfolding hear_refusal ok_hearing rows_after heard taken takes cost_at way_at waiting_at leader leads_by offer tabulate first_below how_many wins ok_move
+    ok_function with_all
 refusals = (refl, refl, refl)

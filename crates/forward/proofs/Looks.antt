@@ -131,12 +131,27 @@ module _ (net : Network) (U c w M : ℕ) where
         none_made : M ≡ 0 → Look.Refused 7 ≡ by_row
         unfolding present can
         none_made e =
-            broken q.row (simp (le-leb 1 c (omega arith), le-leb c ceiling q.low, lt-ltb 0 (link net U (w / 256)) (omega arith), lt-ltb 0 (word net U (w % 256)) (omega arith), e))
+            broken q.row (simp (
+              le-leb 1 c (omega arith),
+              le-leb c ceiling q.low,
+              lt-ltb 0 (link net U (w / 256)) (omega arith),
+              lt-ltb 0
+                  (word net U (w % 256)) (omega arith),
+              e,
+            ))
 
         made : 1 ≤ M → Look.Forward (w / 256) (w % 256) M c ≡ by_row
         unfolding present can
         made some =
-            simp (ne_eqb c no_row q.row, le-leb 1 c (omega arith), le-leb c ceiling q.low, lt-ltb 0 (link net U (w / 256)) (omega arith), lt-ltb 0 (word net U (w % 256)) (omega arith), lt-ltb 0 M some)
+            simp (
+              ne_eqb c no_row q.row,
+              le-leb 1 c (omega arith),
+              le-leb c ceiling q.low,
+              lt-ltb 0 (link net U (w / 256)) (omega arith),
+              lt-ltb 0
+                  (word net U (w % 256)) (omega arith),
+              lt-ltb 0 M some,
+            )
 
 -- and with what `moved` answers
 module _ (net : Network) (s U N c w : ℕ) (q : Costed c) {x : ℕ} (is_x : x ≡ link net U (w / 256)) (linked : x ≡ 0 → ⊥) {y : ℕ} (is_y : y ≡ word net U (w % 256))
@@ -159,14 +174,17 @@ module _ (net : Network) (s : ℕ) (cost way : List ℕ) (U D N : ℕ) where
   delivered_here ok is e = simp (ok, sym is ∙ e)
 
   row_read : ok_place net.n s U D N ≡ true → {b : Bool} → b ≡ home net U D N → b ≡ false
-      → {l : Look} → l ≡ row_answer net s false U N (get_or cost (place_in net.n s U D N) 0) (get_or way (place_in net.n s U D N) 0) → l ≡ look_of net s cost way U D N
+      → {l : Look} → l ≡ row_answer net s false U N (get_or cost (place_in net.n s U D N) 0) (get_or way (place_in net.n s U D N) 0)
+      → l ≡ look_of net s cost way U D N
   row_read ok at_home away is = simp (ok, sym at_home ∙ away) is
 
   -- a row past the end is read as cost 0
-  pub row_past : ok_place net.n s U D N ≡ true → {b : Bool} → b ≡ home net U D N → b ≡ false → length cost ≤ place_in net.n s U D N → Look.Refused 7 ≡ look_of net s cost way U D N
+  pub row_past : ok_place net.n s U D N ≡ true → {b : Bool} → b ≡ home net U D N → b ≡ false → length cost ≤ place_in net.n s U D N
+      → Look.Refused 7 ≡ look_of net s cost way U D N
   row_past ok at_home away past =
       let w = get_or way (place_in net.n s U D N) 0 in
-      row_read ok at_home away (too_cheap net U (get_or cost (place_in net.n s U D N) 0) w (number_after (moved_of net.p s (w % 256) N)) (get_or-eq_default cost 0 past))
+      row_read ok at_home away (too_cheap net U (get_or cost (place_in net.n s U D N) 0) w (number_after (moved_of net.p s (w % 256) N))
+      (get_or-eq_default cost 0 past))
 
   -- with the way as it was read
   pub row_answered : ok_place net.n s U D N ≡ true → {b : Bool} → b ≡ home net U D N → b ≡ false → {w : ℕ} → w ≡ get_or way (place_in net.n s U D N) 0
@@ -183,7 +201,15 @@ module _ (net : Network) (t : Table) where
       let one : 1 * stacks net ≤ net.n * stacks net = mul-le-mul v.nodes (omega arith) in
       let few : stacks net ≤ 16384 = omega (arith, v.room) in
       let at_S : look_of net (stacks net) t.cost t.way U D N ≡ look_at net t U D N =
-      simp (le-leb net.n 32 v.few, le-leb (stacks net) 16384 few, lt-ltb U net.n q.here, lt-ltb D net.n q.there, le-leb 1 N q.numbered, le-leb N (stacks net) q.within)
+      simp (
+        le-leb net.n 32 v.few,
+        le-leb (stacks net) 16384 few,
+        lt-ltb U net.n q.here,
+        lt-ltb D net.n q.there,
+        le-leb 1 N q.numbered,
+        le-leb N
+            (stacks net) q.within,
+      )
       (ap (λ (M : ℕ). answer (home net U D N) (ok_way net U (cost_of net t U D N) (way_of net t U D N) M) (cost_of net t U D N) (way_of net t U D N) M)
       (ap number_after (moved_applied net.p net.h v.size (function_of net t U D N) N))) in
       ap (λ (k : ℕ). look_of net k t.cost t.way U D N) q.stacks_are ∙ at_S

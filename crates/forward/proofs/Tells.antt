@@ -32,7 +32,8 @@ gives After.NotApplicable h = absurd (omega arith)
 gives (After.Refused r) h = absurd (omega arith)
 
 module _ (net : Network) (t : Table) (U D N W f M c : ℕ) where
-  row_tells : ok_row net t U D N ≡ true → Look.Forward (next_of net t U D N) (function_of net t U D N) (result_of net t U D N) (cost_of net t U D N) ≡ Look.Forward W f M c
+  row_tells : ok_row net t U D N ≡ true → Look.Forward (next_of net t U D N) (function_of net t U D N) (result_of net t U D N) (cost_of net t U D N)
+      ≡ Look.Forward W f M c
       → Forwards net t U D N W f M c
   unfolding ok_row
   row_tells ok e =
@@ -62,7 +63,8 @@ module _ (net : Network) (t : Table) (U D N W f M c : ℕ) where
   forward_tells e = go (home net U D N) (eqb (cost_of net t U D N) no_row) (ok_row net t U D N) refl (sym e)
     where
       go : (a b ok : Bool) → ok_row net t U D N ≡ ok
-          → cond a Look.Delivered (cond b (Look.Refused 6) (cond ok (Look.Forward (next_of net t U D N) (function_of net t U D N) (result_of net t U D N) (cost_of net t U D N)) (Look.Refused 7)))
+          → cond a Look.Delivered (cond b (Look.Refused 6) (cond ok (Look.Forward (next_of net t U D N) (function_of net t U D N) (result_of net t U D N)
+          (cost_of net t U D N)) (Look.Refused 7)))
           ≡ Look.Forward W f M c → Forwards net t U D N W f M c
       go true b ok v d = absurd (let z : ◌≡◌ {A = ℕ} 0 1 = cc in omega arith)
       go false true ok v d = absurd (let z : ◌≡◌ {A = ℕ} 0 1 = cc in omega arith)

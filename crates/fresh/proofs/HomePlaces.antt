@@ -140,7 +140,17 @@ module _ (n p S : ℕ) (shape : Shape n p S) (functions : List ℕ) where
       let some : 1 ≤ x + 1 = omega arith in
       let within : x + 1 ≤ p = omega arith in
       let same : x + 1 - 1 ≡ x = omega arith in
-      simp (digits_div (d * n + d) stack, digits_mod (d * n + d) stack, digits_div d low, digits_mod d low, eq-eqb d d refl, le-leb 1 (x + 1) some, le-leb (x + 1) p within, same)
+      simp (
+        digits_div (d * n + d) stack,
+        digits_mod (d * n + d) stack,
+        digits_div d low,
+        digits_mod d low,
+        eq-eqb d d refl,
+        le-leb 1 (x + 1) some,
+        le-leb
+            (x + 1) p within,
+        same,
+      )
 
   -- the place of a home by its node and protocol
   home_place : (i : ℕ) → is_home n p S functions i ≡ true → ((i / S / n * n + i / S / n) * S + i % S ≡ i) × (i % S < p)
@@ -148,8 +158,11 @@ module _ (n p S : ℕ) (shape : Shape n p S) (functions : List ℕ) where
   home_place i e =
       let t = both (eqb (i / S / n) (i / S % n)) _ e in
       let own = eqb-true (i / S / n) (i / S % n) t.0 in
-      let row : i / S / n * n + i / S / n ≡ i / S = ap (λ (k : ℕ). i / S / n * n + k) own ∙ div-add-mod' (i / S) n in
-      (ap (λ (k : ℕ). k * S + i % S) row ∙ div-add-mod' i S, omega (arith, leb-true (i % S + 1) p (both (leb 1 (i % S + 1)) (leb (i % S + 1) p) (both (one_to p (i % S + 1)) _ t.1).0).1))
+      let row : i / S / n * n + i / S / n ≡ i / S = ap (λ (k : ℕ). i / S / n * n + k) own ∙ div-add-mod' (i / S) n in (
+        ap (λ (k : ℕ). k * S + i % S) row ∙ div-add-mod' i S,
+        omega
+            (arith, leb-true (i % S + 1) p (both (leb 1 (i % S + 1)) (leb (i % S + 1) p) (both (one_to p (i % S + 1)) _ t.1).0).1),
+      )
 
   -- between the protocols of node d and the next node's rows there is no home
   no_home : (d i : ℕ) → (d * n + d) * S + p ≤ i → i < ((d + 1) * n + (d + 1)) * S → is_home n p S functions i ≡ false
@@ -169,7 +182,8 @@ module _ (n p S : ℕ) (shape : Shape n p S) (functions : List ℕ) where
     turn_set x v small takes here e =
         let next : (d * n + d) * S + x + 1 ≡ (d * n + d) * S + (x + 1) = omega arith in
         ap₂ (λ (l : List ℕ) (w : ℕ). set l ((d * n + d) * S + x) w) e here
-        ∙ below_set (n * (n * S)) (is_home n p S functions) value other ((d * n + d) * S + x) (place_low n p S shape d x low small) (place_home d x low small ∙ takes)
+        ∙ below_set (n * (n * S)) (is_home n p S functions) value other ((d * n + d) * S + x) (place_low n p S shape d x low small)
+        (place_home d x low small ∙ takes)
         ∙ ap (set_below (n * (n * S)) (is_home n p S functions) value other) next
 
     pub turn_skip : (x : ℕ) → x < p → receives_at n p functions d x ≡ false
@@ -186,7 +200,8 @@ module _ (n p S : ℕ) (shape : Shape n p S) (functions : List ℕ) where
         → list ≡ set_below (n * (n * S)) (is_home n p S functions) value other (((d + 1) * n + (d + 1)) * S)
     turn_last x last e =
         e ∙ ap (λ (k : ℕ). set_below (n * (n * S)) (is_home n p S functions) value other ((d * n + d) * S + k)) last
-        ∙ below_jump (n * (n * S)) (is_home n p S functions) value other ((d * n + d) * S + p) (((d + 1) * n + (d + 1)) * S) (next_node n p S shape d) (no_home d)
+        ∙ below_jump (n * (n * S)) (is_home n p S functions) value other ((d * n + d) * S + p) (((d + 1) * n + (d + 1)) * S) (next_node n p S shape d)
+        (no_home d)
 
   -- ---- the messages, counted while the waiting words are set
   module _ (value : ℕ → ℕ) (d x : ℕ) (low : d < n) (small : x < p) (list : List ℕ)

@@ -33,20 +33,29 @@ move_between (suc zero) h a b (x ∷ r) t few e =
     let c = cond_becomes (eqb x a && ltb (length (x ∷ r)) h) (b ∷ x ∷ r) t e in
     let d = both (eqb x a) (ltb (length (x ∷ r)) h) c.0 in
     let up : between (x ∷ r) (b ∷ x ∷ r) ≡ 64 + 8 * x + b =
-    simp (ne_eqb (suc (length r)) (suc (suc (length r))) (λ (q : suc (length r) ≡ suc (suc (length r))). omega arith), lt-ltb (suc (length r)) (suc (suc (length r))) (omega arith)) in
+    simp (
+      ne_eqb (suc (length r)) (suc (suc (length r))) (λ (q : suc (length r) ≡ suc (suc (length r))). omega arith),
+      lt-ltb (suc (length r))
+          (suc (suc (length r))) (omega arith),
+    ) in
     omega (arith, up, eqb-true x a d.0, ap (between (x ∷ r)) c.1)
 move_between (suc (suc zero)) h a b (x ∷ []) t few e = absurd (cannot_becomes t e)
 move_between (suc (suc zero)) h a b (x ∷ u ∷ r) t few e =
     let c = cond_becomes (eqb x b && eqb u a) (u ∷ r) t e in
     let d = both (eqb x b) (eqb u a) c.0 in
     let down : between (x ∷ u ∷ r) (u ∷ r) ≡ 128 + 8 * u + x =
-    simp (ne_eqb (suc (suc (length r))) (suc (length r)) (λ (q : suc (suc (length r)) ≡ suc (length r)). omega arith), le-ltb (suc (suc (length r))) (suc (length r)) (omega arith)) in
+    simp (
+      ne_eqb (suc (suc (length r))) (suc (length r)) (λ (q : suc (suc (length r)) ≡ suc (length r)). omega arith),
+      le-ltb (suc (suc (length r)))
+          (suc (length r)) (omega arith),
+    ) in
     omega (arith, down, eqb-true x b d.0, eqb-true u a d.1, ap (between (x ∷ u ∷ r)) c.1)
 move_between (suc (suc (suc k))) h a b (x ∷ r) t few e = absurd (omega arith)
 
 apply_between : (h f : ℕ) (s t : List ℕ) → f < 192 → apply h f s ≡ becomes t → f ≡ between (reverse s) (reverse t)
 apply_between h f s t few e =
-    let m = move_between (f / 64) h (f / 8 % 8) (f % 8) (reverse s) (reverse t) (omega arith) (turned_becomes (move (f / 64) h (f / 8 % 8) (f % 8) (reverse s)) t e) in
+    let m = move_between (f / 64) h (f / 8 % 8) (f % 8) (reverse s) (reverse t) (omega arith)
+    (turned_becomes (move (f / 64) h (f / 8 % 8) (f % 8) (reverse s)) t e) in
     let d : f / 8 / 8 ≡ f / 64 = omega arith in
     omega arith
 

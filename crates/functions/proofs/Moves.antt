@@ -53,7 +53,8 @@ unwrap_num p m a b t k (u ∷ r) st ok =
     answer_cond p (eqb t b && eqb u a) (u ∷ r)
     ∙ simp (num_top p (num p (u ∷ r)) t st, num_rest p (num p (u ∷ r)) t st, num_top p (num p r) u su, lt-ltb 0 (num p (u ∷ r)) (omega arith))
 
-pub move_num : (p h k a b : ℕ) (r : List ℕ) → b < p → 1 ≤ length r → below p r ≡ true → answer_top p (move k h a b r) ≡ move_number p (count p h) k a b (num p r)
+pub move_num : (p h k a b : ℕ) (r : List ℕ) → b < p → 1 ≤ length r → below p r ≡ true → answer_top p (move k h a b r) ≡ move_number p (count p h) k a b
+    (num p r)
 move_num p h k a b [] sb some ok = absurd (omega arith)
 move_num p h zero a b (t ∷ r) sb some ok = convert_num p h a b t r (ltb-true t p (both (ltb t p) (below p r) ok).0)
 move_num p h (suc zero) a b (t ∷ r) sb some ok =
@@ -64,7 +65,8 @@ move_num p h (suc (suc k)) a b (t ∷ r) sb some ok =
     unwrap_num p (count p h) a b t k r (ltb-true t p c.0) c.1
 
 -- apply on a stack, by its number
-pub apply_number : (p h f : ℕ) (s : List ℕ) → f % 8 < p → ok_stack p h s ≡ true → answer p (apply h f s) ≡ move_number p (count p h) (f / 64) (f / 8 % 8) (f % 8) (number p s)
+pub apply_number : (p h f : ℕ) (s : List ℕ) → f % 8 < p → ok_stack p h s ≡ true → answer p (apply h f s) ≡ move_number p (count p h) (f / 64) (f / 8 % 8)
+    (f % 8) (number p s)
 apply_number p h f s sb ok =
     let g = good p h s ok in
     answer_turned p (move (f / 64) h (f / 8 % 8) (f % 8) (reverse s))
@@ -72,7 +74,8 @@ apply_number p h f s sb ok =
     ∙ ap (move_number p (count p h) (f / 64) (f / 8 % 8) (f % 8)) (sym (number_num p s))
 
 -- the same from a number
-apply_stack_of : (p h f n : ℕ) → 1 ≤ p → f % 8 < p → ok_number p h n ≡ true → answer p (apply h f (stack_of p h n)) ≡ move_number p (count p h) (f / 64) (f / 8 % 8) (f % 8) n
+apply_stack_of : (p h f n : ℕ) → 1 ≤ p → f % 8 < p → ok_number p h n ≡ true → answer p (apply h f (stack_of p h n)) ≡ move_number p (count p h) (f / 64)
+    (f / 8 % 8) (f % 8) n
 apply_stack_of p h f n some sb ok =
     apply_number p h f (stack_of p h n) sb (stack_of_ok p h n some ok)
     ∙ ap (move_number p (count p h) (f / 64) (f / 8 % 8) (f % 8)) (number_stack_of p h n some (within p h n ok).most)
@@ -88,7 +91,8 @@ pub moved_applied : (p h f n : ℕ) → ok_size p h ≡ true → moved_of p (cou
 moved_applied p h f n size = simp (ok_move_is p h f n size, size) (go (ok_number p h n) refl (ok_function p f) refl)
   where
     go : (a : Bool) → ok_number p h n ≡ a → (b : Bool) → ok_function p f ≡ b
-        → cond (a && b) (move_number p (count p h) (f / 64) (f / 8 % 8) (f % 8) n) (Refused 4) ≡ cond (a && b) (answer p (apply h f (stack_of p h n))) (Refused 4)
+        → cond (a && b) (move_number p (count p h) (f / 64) (f / 8 % 8) (f % 8) n) (Refused 4) ≡ cond (a && b) (answer p (apply h f (stack_of p h n)))
+        (Refused 4)
     go true e true d = sym (apply_stack_of p h f n (sizes p h size).some (function p f d).to e)
     go true e false d = refl
     go false e b d = refl

@@ -94,6 +94,11 @@ pub no_move : (p most f n : ℕ) → (leb 1 p && (leb p 8 && ok_function p f)) �
 no_move p most f n off = bool_cases (ok_move p most f n)
     (λ ok.
     let m = moves p most f n ok in
-    let on : (leb 1 p && (leb p 8 && ok_function p f)) ≡ true = simp (le-leb 1 p m.some, le-leb p 8 m.few, ok_function_yes p f m.parts.kind m.parts.from m.parts.to) in
+    let on : (leb 1 p && (leb p 8 && ok_function p f)) ≡ true = simp (
+      le-leb 1 p m.some,
+      le-leb p 8 m.few,
+      ok_function_yes p f m.parts.kind m.parts.from
+          m.parts.to,
+    ) in
     absurd (true≢false (sym on ∙ off)))
     (λ e. e)

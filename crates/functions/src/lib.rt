@@ -1,4 +1,5 @@
-// The functions on stacks: convert, wrap and unwrap, by the numbers of stacks. Every public function takes any input; its contract is an equation in specs/Answers.antt.
+// The functions on stacks: convert, wrap and unwrap, by the numbers of stacks. Every public function takes any input; its contract is an equation in
+// specs/Answers.antt.
 #![tactic(auto)]
 
 ghost use Rattle.std.specs.Prelude.{◌≡◌, ◌&&◌, ◌≤◌, ◌<◌, leb};

@@ -36,7 +36,8 @@ module _ (n p : ℕ) (functions : List ℕ) (U x : ℕ) where
   unfolding receives_at
   received_to_unwrap y w low e can = simp (some_at p (λ a. ltb 0 (word_at n p functions U 2 a x)) y low (yes_word w _ e can), or-true)
 
-  pub without : (y u v w : ℕ) → u ≡ word_at n p functions U 0 x y → u ≤ 0 → v ≡ word_at n p functions U 1 x y → v ≤ 0 → w ≡ word_at n p functions U 2 y x → w ≤ 0
+  pub without : (y u v w : ℕ) → u ≡ word_at n p functions U 0 x y → u ≤ 0 → v ≡ word_at n p functions U 1 x y → v ≤ 0 → w ≡ word_at n p functions U 2 y x
+      → w ≤ 0
       → Without n p functions U x y
   without y u v w convert no_convert wrap no_wrap unwrap no_unwrap =
       record { convert = no_word u _ convert no_convert; wrap = no_word v _ wrap no_wrap; unwrap = no_word w _ unwrap no_unwrap }

@@ -55,7 +55,8 @@ module _ (n p : ℕ) (functions : List ℕ) (U kind a b : ℕ) where
   pub word_placed : ltb 0 (word_at n p functions U kind a b) ≡ true → Placed n p U kind a b
   unfolding word_at
   word_placed e =
-      placed_by n p U kind a b (cond_some (is_node n U && (leb p 8 && (ltb kind 3 && (ltb a p && ltb b p)))) (get_or functions (((U * 3 + kind) * p + a) * p + b) 0) e)
+      placed_by n p U kind a b (cond_some (is_node n U && (leb p 8 && (ltb kind 3 && (ltb a p && ltb b p))))
+      (get_or functions (((U * 3 + kind) * p + a) * p + b) 0) e)
 
   pub word_most : (m : ℕ) → get_or functions (((U * 3 + kind) * p + a) * p + b) 0 ≤ m → word_at n p functions U kind a b ≤ m
   unfolding word_at

@@ -42,7 +42,11 @@ module _ (packet : List ℕ) (s : ℕ) where
 
   pub header_is : {b x : ℕ} → b ≡ get_or packet s 0 → x ≡ cond (eqb (version packet s) 6) 40 (4 * (b % 16)) → (x ≡ header_length packet s) × (x ≤ 60)
   unfolding header_length
-  header_is {b} first is = (is ∙ ap (λ (y : ℕ). cond (eqb (version packet s) 6) 40 (4 * (y % 16))) (first_byte first), omega (arith, is, small (eqb (version packet s) 6)))
+  header_is {b} first is = (
+    is ∙ ap (λ (y : ℕ). cond (eqb (version packet s) 6) 40 (4 * (y % 16))) (first_byte first),
+    omega
+        (arith, is, small (eqb (version packet s) 6)),
+  )
     where
       small : (six : Bool) → cond six 40 (4 * (b % 16)) ≤ 60
       small true = omega arith

@@ -51,7 +51,8 @@ header_as : (packet : List ℕ) (s : ℕ) → ok_header packet s ≡ (leb 20 (he
 unfolding ok_header header_length packet_length
 header_as packet s = go (eqb (version packet s) 6) (4 * (byte packet s 0 % 16)) (pair packet s 4) (pair packet s 2)
   where
-    go : (six : Bool) (x y z : ℕ) → (six || (leb 20 (cond six 40 x) && leb (cond six 40 x) (cond six (40 + y) z))) ≡ (leb 20 (cond six 40 x) && leb (cond six 40 x) (cond six (40 + y) z))
+    go : (six : Bool) (x y z : ℕ) → (six || (leb 20 (cond six 40 x) && leb (cond six 40 x) (cond six (40 + y) z)))
+        ≡ (leb 20 (cond six 40 x) && leb (cond six 40 x) (cond six (40 + y) z))
     go true x y z = sym (le-leb 40 (40 + y) (omega arith))
     go false x y z = refl
 
@@ -66,7 +67,12 @@ module _ (packet : List ℕ) (s e : ℕ) {header long : ℕ} (is_header : header
       (λ low. simp (header_as packet s, lt-leb 20 (header_length packet s) (omega (arith, ltb-true header 20 low))))
       (λ low. by_cases (dec_lt header 20)
       (λ few. simp (header_as packet s, lt-leb 20 (header_length packet s) (omega arith)))
-      (λ some. simp (header_as packet s, le-leb 20 (header_length packet s) (omega arith), lt-leb (header_length packet s) (packet_length packet s) (omega (arith, ltb-true long header low)))))
+      (λ some. simp (
+        header_as packet s,
+        le-leb 20 (header_length packet s) (omega arith),
+        lt-leb (header_length packet s) (packet_length packet s)
+            (omega (arith, ltb-true long header low)),
+      )))
       (either (ltb header 20) (ltb long header) bad)
 
   module _ (good : (ltb header 20 || ltb long header) ≡ false) (after : s ≤ e) where
@@ -74,7 +80,12 @@ module _ (packet : List ℕ) (s e : ℕ) {header long : ℕ} (is_header : header
     lengths = let n = neither (ltb header 20) (ltb long header) good in (ltb-false header 20 n.0, ltb-false long header n.1)
 
     good_header : ok_header packet s ≡ true
-    good_header = simp (header_as packet s, le-leb 20 (header_length packet s) (omega (arith, lengths)), le-leb (header_length packet s) (packet_length packet s) (omega (arith, lengths)))
+    good_header = simp (
+      header_as packet s,
+      le-leb 20 (header_length packet s) (omega (arith, lengths)),
+      le-leb (header_length packet s)
+          (packet_length packet s) (omega (arith, lengths)),
+    )
 
     pub too_long : e - s < long → 64 ≡ rest_refusal packet s e
     unfolding ok_length

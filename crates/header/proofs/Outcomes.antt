@@ -13,7 +13,8 @@ use Rattle.header.specs.declared.Header.{Header}
 use Rattle.header.proofs.Rightness.{passed}
 
 -- a header without a refusal
-pub passes : (packet : List ℕ) (s : ℕ) {r q header long after : ℕ} → 0 ≡ r → q ≡ protocol packet s → header ≡ header_length packet s → long ≡ packet_length packet s
+pub passes : (packet : List ℕ) (s : ℕ) {r q header long after : ℕ} → 0 ≡ r → q ≡ protocol packet s → header ≡ header_length packet s
+    → long ≡ packet_length packet s
     → after ≡ announces (next packet s) → Header.Right q (s + header) (s + long) after ≡ answered packet s r
 passes packet s fine is_q is_header is_long is_after = rw (← fine, is_q, is_header, is_long, is_after) refl
 
@@ -50,7 +51,8 @@ module _ (packet : List ℕ) (s announced e : ℕ) where
   right_is q from to after d = go (refusal_of packet s announced e) refl (eqb (refusal_of packet s announced e) 0) refl d
     where
       go : (x : ℕ) → refusal_of packet s announced e ≡ x → (fine : Bool) → eqb x 0 ≡ fine
-          → Header.Right q from to after ≡ cond fine (Header.Right (protocol packet s) (inside packet s) (end packet s) (announces (next packet s))) (Header.Refused x)
+          → Header.Right q from to after ≡ cond fine (Header.Right (protocol packet s) (inside packet s) (end packet s) (announces (next packet s)))
+          (Header.Refused x)
           → Passed q from to after
       go x y true z same = record { fine = (held (y ∙ eqb-true x 0 z)).1; is_protocol = cc; is_inside = cc; is_end = cc; is_after = cc }
       go x y false z same = absurd (let y : ◌≡◌ {A = ℕ} 0 1 = cc in omega arith)

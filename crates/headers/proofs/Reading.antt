@@ -95,7 +95,8 @@ finds h packet stack from to = (reads, read)
   where
     reads : reading_of h packet ≡ found stack from to → Reads h packet stack from to
     reads f =
-        let w = found_chain packet h 0 0 0 (length packet) from to [] stack (found_past (ok_size 2 h) (follow packet h 0 0 0 (length packet) []) 1 0 0 from to stack f).1 in
+        let w = found_chain packet h 0 0 0 (length packet) from to [] stack (found_past (ok_size 2 h) (follow packet h 0 0 0 (length packet) []) 1 0 0 from
+        to stack f).1 in
         let same : w.inner ≡ stack = sym (append-nil w.inner) ∙ w.whole in
         record {
           bound = (found_past (ok_size 2 h) (follow packet h 0 0 0 (length packet) []) 1 0 0 from to stack f).0;

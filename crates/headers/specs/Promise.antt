@@ -26,4 +26,5 @@ pub record Promised : Type 0 where
   pub trailing : (h n : ℕ) (a b : List ℕ) → shortest a 0 ≤ n → packet_length a 0 ≤ n → n ≤ length a → n ≤ length b
       → ((i : ℕ) → i < n → get_or a i 0 ≡ get_or b i 0) → reading_of h a ≡ reading_of h b
   -- A packet laid out as the RFCs have it, IPv4 in IPv6, is read; a wrong checksum and one header too many are refused where they stand.
-  pub example : (reading_of 12 four_in_six ≡ found (0 ∷ 1 ∷ []) 60 64) × (reading_of 12 wrong_checksum ≡ refused 65 1 40) × (reading_of 1 four_in_six ≡ refused 67 1 40)
+  pub example : (reading_of 12 four_in_six ≡ found (0 ∷ 1 ∷ []) 60 64) × (reading_of 12 wrong_checksum ≡ refused 65 1 40)
+      × (reading_of 1 four_in_six ≡ refused 67 1 40)

@@ -118,7 +118,8 @@ module _ (g : Gateway) (m : Message) (r : Rows) where
       (leb m.cost ceiling) e in
       let b = both (good_numbers g.p g.most m.sender m.destination m.number)
       (leb ((m.destination + 1) * g.most) (length r.costs) && (eqb (length r.ways) (length r.costs) && eqb (length r.waiting) (length r.costs))) a.0 in
-      let d = both (leb ((m.destination + 1) * g.most) (length r.costs)) (eqb (length r.ways) (length r.costs) && eqb (length r.waiting) (length r.costs)) b.1 in
+      let d = both (leb ((m.destination + 1) * g.most) (length r.costs)) (eqb (length r.ways) (length r.costs) && eqb (length r.waiting) (length r.costs))
+      b.1 in
       let t = both (eqb (length r.ways) (length r.costs)) (eqb (length r.waiting) (length r.costs)) d.1 in
       record {
         numbers_good = numbers g.p g.most m.sender m.destination m.number b.0;

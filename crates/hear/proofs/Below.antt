@@ -101,12 +101,16 @@ module _ (g : Gateway) (m : Message) where
   unfolding rows_below cost_below way_below waiting_below
   rows_none r ways waiting =
       rows_eq r (rows_below g m 0 r).costs (rows_below g m 0 r).ways (rows_below g m 0 r).waiting
-      (tabulate_get_d 0 r.costs (length r.costs) refl ∙ tabulate_same 0 (length r.costs) (λ i. get_or r.costs i 0) (cost_below g m 0 r) (λ i b. simp (takes_none r.costs i)))
-      (tabulate_get_d 0 r.ways (length r.costs) ways ∙ tabulate_same 0 (length r.costs) (λ i. get_or r.ways i 0) (way_below g m 0 r) (λ i b. simp (takes_none r.costs i)))
-      (tabulate_get_d 0 r.waiting (length r.costs) waiting ∙ tabulate_same 0 (length r.costs) (λ i. get_or r.waiting i 0) (waiting_below g m 0 r) (λ i b. simp (takes_none r.costs i)))
+      (tabulate_get_d 0 r.costs (length r.costs) refl ∙ tabulate_same 0 (length r.costs) (λ i. get_or r.costs i 0) (cost_below g m 0 r)
+      (λ i b. simp (takes_none r.costs i)))
+      (tabulate_get_d 0 r.ways (length r.costs) ways ∙ tabulate_same 0 (length r.costs) (λ i. get_or r.ways i 0) (way_below g m 0 r)
+      (λ i b. simp (takes_none r.costs i)))
+      (tabulate_get_d 0 r.waiting (length r.costs) waiting ∙ tabulate_same 0 (length r.costs) (λ i. get_or r.waiting i 0) (waiting_below g m 0 r)
+      (λ i b. simp (takes_none r.costs i)))
 
   pub rows_long : (i : ℕ) (r : Rows)
-      → (length (rows_below g m i r).costs ≡ length r.costs) × (length (rows_below g m i r).ways ≡ length r.costs) × (length (rows_below g m i r).waiting ≡ length r.costs)
+      → (length (rows_below g m i r).costs ≡ length r.costs) × (length (rows_below g m i r).ways ≡ length r.costs)
+      × (length (rows_below g m i r).waiting ≡ length r.costs)
   unfolding rows_below
   rows_long i r = (
     length_tabulate (length r.costs) (cost_below g m i r),

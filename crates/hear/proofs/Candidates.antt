@@ -153,7 +153,8 @@ module _ (g : Gateway) (m : Message) (i : ℕ) (z : Turn g.p m.number i) (within
   only x low e =
       let l = led g.p g.most (leader g m x) x m.number (leader_found g m x low).makes in
       let f = leader g m x in
-      let q = sym (in_turn g.p m.number (kind_of f) (from_of f) (to_of f) x (omega arith) l.moves.parts.from l.from_source) ∙ ap (candidate_of g.p m.number) e in
+      let q = sym (in_turn g.p m.number (kind_of f) (from_of f) (to_of f) x (omega arith) l.moves.parts.from l.from_source) ∙ ap (candidate_of g.p m.number)
+      e in
       (put_together f ∙ ap candidate_function q, ap (λ (y : Candidate). y.source) q)
 
   pub leads : 0 < g.words (candidate_function here) → 1 ≤ here.source → here.source ≤ g.most → leader g m here.source ≡ candidate_function here

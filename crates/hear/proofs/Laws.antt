@@ -88,7 +88,8 @@ module _ (g h : Gateway) (m : Message) (a : Alike g h) where
   offer_same f low = simp (a.words f low)
 
   -- the offer matters only below 192
-  leads_alike : (costs : List ℕ) (j x y : ℕ) → x ≡ y → (ltb x 192 && wins (offer g m x) (get_or costs j 0)) ≡ (ltb y 192 && wins (offer h m y) (get_or costs j 0))
+  leads_alike : (costs : List ℕ) (j x y : ℕ) → x ≡ y → (ltb x 192 && wins (offer g m x) (get_or costs j 0))
+      ≡ (ltb y 192 && wins (offer h m y) (get_or costs j 0))
   leads_alike costs j x y e = by_cases (dec_lt y 192)
       (λ low. rw e (ap (λ (o : ℕ). ltb y 192 && wins o (get_or costs j 0)) (offer_same y low)))
       (λ high. simp (e, le-ltb y 192 (omega arith)))
@@ -96,7 +97,8 @@ module _ (g h : Gateway) (m : Message) (a : Alike g h) where
   takes_same : (costs : List ℕ) (j : ℕ) → takes g m costs j ≡ takes h m costs j
   unfolding takes
   takes_same costs j =
-      ap₂ (λ (b d : Bool). b && d) (ap (λ (x : ℕ). eqb (j / x) m.destination) a.most) (leads_alike costs j (leader_at g m j) (leader_at h m j) (leader_at_same j))
+      ap₂ (λ (b d : Bool). b && d) (ap (λ (x : ℕ). eqb (j / x) m.destination) a.most) (leads_alike costs j (leader_at g m j) (leader_at h m j)
+      (leader_at_same j))
 
   pub taken_same : (r : Rows) → taken g m r ≡ taken h m r
   unfolding taken

@@ -165,4 +165,5 @@ pub offered : (p most neighbours : ℕ) (grids : List (List (List ℕ))) (m : Me
 offered p most neighbours grids m i c o z is e =
     let d = small p m.number i c z is in
     e ∙ ap (λ (w : ℕ). offer_of most m.sender m.destination m.cost m.link w c) (word_at_lem grids c d.kinds d.firsts d.seconds)
-    ∙ ap (λ (x : Candidate). offer_of most m.sender m.destination m.cost m.link (words_of (get_or grids 0 []) (get_or grids 1 []) (get_or grids 2 []) (candidate_function x)) x) is
+    ∙ ap (λ (x : Candidate). offer_of most m.sender m.destination m.cost m.link (words_of (get_or grids 0 []) (get_or grids 1 []) (get_or grids 2 [])
+    (candidate_function x)) x) is

@@ -94,7 +94,8 @@ module _ (p number : ℕ) (some_p : 1 ≤ p) (some : 1 ≤ number) where
       let more : suc (rest p number) ≤ number = omega (arith, wraps_low, parts p number some) in
       omega (arith, mul-suc p (rest p number), mul-le-mul_left p more)
 
-  pub one_source : (k l a b c d n : ℕ) → k < 3 → l < 3 → a < p → c < p → Source p number k a b n → Source p number l c d n → 64 * k + 8 * a + b ≡ 64 * l + 8 * c + d
+  pub one_source : (k l a b c d n : ℕ) → k < 3 → l < 3 → a < p → c < p → Source p number k a b n → Source p number l c d n → 64 * k + 8 * a + b ≡ 64 * l + 8
+      * c + d
   one_source zero zero a b c d n hk hl ha hc s u = omega arith
   one_source zero (suc zero) a b c d n hk hl ha hc s u = absurd (omega (arith, wraps_low))
   one_source zero (suc (suc l)) a b c d n hk hl ha hc s u = absurd (omega (arith, unwraps_high))

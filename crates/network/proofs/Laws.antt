@@ -104,7 +104,8 @@ module _ (net : Network) where
   pub checked_refused : (r : ℕ) → checked_of net ≡ Checked.Refused r → (refusal_of net ≡ r) × (1 ≤ r) × (r ≤ 2)
   checked_refused r e =
       let a = answer_refused (refusal_of net) (stacks net) r (eqb (refusal_of net) 0) refl e in
-      let some : 1 ≤ refusal_of net = by_cases (dec_lt 0 (refusal_of net)) (λ h. h) (λ h. absurd (false≢true (sym a.1 ∙ eq-eqb (refusal_of net) 0 (omega arith)))) in
+      let some : 1 ≤ refusal_of net = by_cases (dec_lt 0 (refusal_of net)) (λ h. h)
+      (λ h. absurd (false≢true (sym a.1 ∙ eq-eqb (refusal_of net) 0 (omega arith)))) in
       (a.0, omega (arith, a.0), omega (arith, a.0, refusal_most))
 
 -- ---- links

@@ -78,7 +78,8 @@ module _ (net : Network) where
   unfolding good_row
   half_pair e U W u w =
       pair_same U W
-      (every_at U (λ X. good_pair net.n net.links U X) (both (eqb (link_at net.n net.links U U) 0) (every U (λ X. good_pair net.n net.links U X)) (row_at e U u)).1 W w)
+      (every_at U (λ X. good_pair net.n net.links U X) (both (eqb (link_at net.n net.links U U) 0) (every U (λ X. good_pair net.n net.links U X))
+      (row_at e U u)).1 W w)
 
   half_same : half_links net.n net.links ≡ true → (U W : ℕ) → U < net.n → W < net.n → present net U W ≡ present net W U
   half_same e U W u w = by_cases (dec_lt W U)

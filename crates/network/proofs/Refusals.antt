@@ -75,7 +75,8 @@ module _ (net : Network) where
       module _ (products : ok_products m ≡ true) where
         pub links_long : length net.links ≡ net.n * net.n
         links_long =
-            let a = both (leb (net.n * m) 16384 && eqb (length net.links) (net.n * net.n)) (eqb (length net.functions) (net.n * (3 * (net.p * net.p)))) products in
+            let a = both (leb (net.n * m) 16384 && eqb (length net.links) (net.n * net.n)) (eqb (length net.functions) (net.n * (3 * (net.p * net.p))))
+            products in
             eqb-true (length net.links) (net.n * net.n) (both (leb (net.n * m) 16384) (eqb (length net.links) (net.n * net.n)) a.0).1
 
         pub bad_links : ok_links net ≡ false → Checked.Refused 2 ≡ checked_of net

@@ -53,4 +53,5 @@ module _ (n : ℕ) (links : List ℕ) (U : ℕ) where
   pub row_good : link_at n links U U ≤ 0 → ((W : ℕ) → W < U → good_pair n links U W ≡ true) → good_row n links U ≡ true
   unfolding good_row
   row_good none all =
-      and_true (eqb (link_at n links U U) 0) (every U (λ X. good_pair n links U X)) (eq-eqb (link_at n links U U) 0 (omega arith)) (every_all U (λ X. good_pair n links U X) all)
+      and_true (eqb (link_at n links U U) 0) (every U (λ X. good_pair n links U X)) (eq-eqb (link_at n links U U) 0 (omega arith))
+      (every_all U (λ X. good_pair n links U X) all)

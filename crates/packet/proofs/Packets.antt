@@ -32,7 +32,8 @@ refused_so false x r e = (refl, (cc))
 
 -- ---- at each test of `begin`
 module _ (net : Network) (t : Table) (U D : ℕ) (stack : List ℕ) where
-  pub not_begun : (r : ℕ) {k : Checked} → k ≡ ready_of net (length t.cost) (length t.way) (length t.waiting) → k ≡ Checked.Refused r → Packet.Refused r ≡ packet_of net t U D stack
+  pub not_begun : (r : ℕ) {k : Checked} → k ≡ ready_of net (length t.cost) (length t.way) (length t.waiting) → k ≡ Checked.Refused r
+      → Packet.Refused r ≡ packet_of net t U D stack
   not_begun r is e = sym (ap (λ (k : Checked). packet_from k (ok_packet net U D stack) (number net.p stack)) (sym is ∙ e))
 
   module _ (s : ℕ) {k : Checked} (is : k ≡ ready_of net (length t.cost) (length t.way) (length t.waiting)) (told : k ≡ Checked.Stacks s) where
@@ -55,13 +56,15 @@ module _ (net : Network) (t : Table) (U D : ℕ) (stack : List ℕ) where
     unfolding ok_packet
     no_destination here high = answers false (simp (lt-ltb U net.n here, le-ltb D net.n high))
 
-    pub no_stack : (r : ℕ) → U < net.n → D < net.n → {a : Answer} → a ≡ number_of net.p net.h stack → a ≡ Answer.Refused r → Packet.Refused r ≡ packet_of net t U D stack
+    pub no_stack : (r : ℕ) → U < net.n → D < net.n → {a : Answer} → a ≡ number_of net.p net.h stack → a ≡ Answer.Refused r → Packet.Refused r ≡ packet_of
+        net t U D stack
     unfolding ok_packet
     no_stack r here there is d =
         let w = refused_so (ok_stack net.p net.h stack) (number net.p stack) r (simp size at (sym is ∙ d)) in
         ap Packet.Refused w.1 ∙ answers false (simp (lt-ltb U net.n here, lt-ltb D net.n there) w.0)
 
-    pub good_packet : (N : ℕ) → U < net.n → D < net.n → {a : Answer} → a ≡ number_of net.p net.h stack → a ≡ Answer.Value N → Packet.Number s N ≡ packet_of net t U D stack
+    pub good_packet : (N : ℕ) → U < net.n → D < net.n → {a : Answer} → a ≡ number_of net.p net.h stack → a ≡ Answer.Value N → Packet.Number s N ≡ packet_of
+        net t U D stack
     unfolding ok_packet
     good_packet N here there is d =
         let w = numbered_so (ok_stack net.p net.h stack) (number net.p stack) N (simp size at (sym is ∙ d)) in

@@ -33,7 +33,8 @@ module _ (net : Network) (t : Table) (D : ℕ) where
       go false false true = omega arith
       go false false false = omega arith
 
-  onward_few : (left : ℕ) (rest : ℕ → ℕ → Journey) → ((W M : ℕ) → (rest W M).refused ≤ 8) → (U N : ℕ) (l : Look) → look_refusal l ≤ 7 → (onward net t D left rest U N l).refused ≤ 8
+  onward_few : (left : ℕ) (rest : ℕ → ℕ → Journey) → ((W M : ℕ) → (rest W M).refused ≤ 8) → (U N : ℕ) (l : Look) → look_refusal l ≤ 7
+      → (onward net t D left rest U N l).refused ≤ 8
   onward_few left rest few U N Look.Delivered h = omega arith
   onward_few left rest few U N (Look.Refused r) h = omega arith
   onward_few zero rest few U N (Look.Forward W f M c) h = omega arith
@@ -44,7 +45,8 @@ module _ (net : Network) (t : Table) (D : ℕ) where
   journey_few (suc left) U N = onward_few (suc left) (journey net t D left) (journey_few left) U N (look_at net t U D N) (look_few U N)
 
 -- ---- what the C caller reads back from the answer and a slice that has room for the numbers
-back : (j : Journey) → j.refused ≤ 8 → (answer : List ℕ) → 4 ≤ length answer → unpack_carry (four_packed (carry_four j) answer) (four_numbers (carry_four j) answer) ≡ j
+back : (j : Journey) → j.refused ≤ 8 → (answer : List ℕ) → 4 ≤ length answer → unpack_carry (four_packed (carry_four j) answer)
+    (four_numbers (carry_four j) answer) ≡ j
 unfolding unpack_carry four_packed four_numbers
 back j few [] long = absurd (omega arith)
 back j few (x ∷ []) long = absurd (omega arith)
@@ -63,5 +65,6 @@ module _ (net : Network) (t : Table) (U D : ℕ) (stack : List ℕ) (limit : ℕ
       go false b = omega (arith, refusal_few net t)
 
   pub carry_kept : (answer : List ℕ) → 4 ≤ length answer
-      → unpack_carry (four_packed (carry_four (carry_of net t U D stack limit)) answer) (four_numbers (carry_four (carry_of net t U D stack limit)) answer) ≡ carry_of net t U D stack limit
+      → unpack_carry (four_packed (carry_four (carry_of net t U D stack limit)) answer) (four_numbers (carry_four (carry_of net t U D stack limit)) answer)
+      ≡ carry_of net t U D stack limit
   carry_kept answer long = back (carry_of net t U D stack limit) carry_few answer long

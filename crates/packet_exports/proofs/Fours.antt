@@ -27,7 +27,13 @@ module _ (answer : List ℕ) where
   pub has_carried : (j : Journey) (c : Carried) (four : Four) (r : ℕ) (numbers : List ℕ) → Carries j c → four ≡ four_of c → FourExported four answer r numbers
       → FourExported (carry_four j) answer r numbers
   has_carried j c four r numbers k e x =
-      let same : four_of c ≡ carry_four j = λ i. record { first = k.hops i; second = k.spent i; third = k.node i; fourth = k.number i; refused = k.refused i } in
+      let same : four_of c ≡ carry_four j = λ i. record {
+        first = k.hops i;
+        second = k.spent i;
+        third = k.node i;
+        fourth = k.number i;
+        refused = k.refused i;
+      } in
       subst (λ (f : Four). FourExported f answer r numbers) (e ∙ same) x
 
   -- ---- read_stack

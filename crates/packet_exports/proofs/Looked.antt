@@ -45,7 +45,8 @@ module _ (net : Network) (t : Table) (ready : Ready net t (stacks net)) (U D N :
   at_fits = go (home net U D N) refl (eqb (cost_of net t U D N) no_row) refl (ok_row net t U D N) refl
     where
       go : (a : Bool) → home net U D N ≡ a → (b : Bool) → eqb (cost_of net t U D N) no_row ≡ b → (c : Bool) → ok_row net t U D N ≡ c
-          → LookFits (cond a Look.Delivered (cond b (Look.Refused 6) (cond c (Look.Forward (next_of net t U D N) (function_of net t U D N) (result_of net t U D N) (cost_of net t U D N)) (Look.Refused 7))))
+          → LookFits (cond a Look.Delivered (cond b (Look.Refused 6)
+          (cond c (Look.Forward (next_of net t U D N) (function_of net t U D N) (result_of net t U D N) (cost_of net t U D N)) (Look.Refused 7))))
       go true x b y c z = tt
       go false x true y c z = record { some = omega arith; most = omega arith }
       go false x false y true z = forward_fits x y z
@@ -53,7 +54,8 @@ module _ (net : Network) (t : Table) (ready : Ready net t (stacks net)) (U D N :
 
 module _ (net : Network) (t : Table) (U D : ℕ) (stack : List ℕ) where
   pub look_fits : LookFits (lookup_of net t U D stack)
-  look_fits = by_refusal net t LookFits (cond (ok_packet net U D stack) (look_at net t U D (number net.p stack)) (Look.Refused 4)) (Look.Refused (refusal net t))
+  look_fits = by_refusal net t LookFits (cond (ok_packet net U D stack) (look_at net t U D (number net.p stack)) (Look.Refused 4))
+      (Look.Refused (refusal net t))
       (λ r. go r (ok_packet net U D stack)) (λ some few. record { some = some; most = omega (arith, few) })
     where
       go : Ready net t (stacks net) → (b : Bool) → LookFits (cond b (look_at net t U D (number net.p stack)) (Look.Refused 4))

@@ -30,7 +30,8 @@ ReadFits (Read.Refused refusal header start) = RefusalFits refusal
 -- ---- a header's refusal is at most 66
 header_most : (packet : List ℕ) (s announced e : ℕ) → header_refusal packet s announced e ≤ 66
 unfolding header_refusal
-header_most packet s announced e = go (ok_room packet s e) (ok_version packet s announced) (ok_header packet s) (ok_length packet s e) (ok_checksum packet s) (ok_whole packet s)
+header_most packet s announced e = go (ok_room packet s e) (ok_version packet s announced) (ok_header packet s) (ok_length packet s e)
+    (ok_checksum packet s) (ok_whole packet s)
   where
     go : (a b c d x y : Bool) → unless a 61 (unless b 62 (unless c 63 (unless d 64 (unless x 65 (unless y 66 0))))) ≤ 66
     go false b c d x y = omega arith
@@ -49,7 +50,8 @@ header_fits packet s announced e other =
 follow_fits : (packet : List ℕ) (left announced k s e : ℕ) (outer : List ℕ) → ReadingFits (follow packet left announced k s e outer)
 follow_fits packet zero announced k s e outer = go (eqb (header_refusal packet s announced e) 0) refl
   where
-    go : (fine : Bool) → eqb (header_refusal packet s announced e) 0 ≡ fine → ReadingFits (cond fine (refused 67 k s) (refused (header_refusal packet s announced e) k s))
+    go : (fine : Bool) → eqb (header_refusal packet s announced e) 0 ≡ fine
+        → ReadingFits (cond fine (refused 67 k s) (refused (header_refusal packet s announced e) k s))
     go true q = record { some = omega arith; most = omega arith }
     go false q = header_fits packet s announced e q
 follow_fits packet (suc left) announced k s e outer =
@@ -59,7 +61,8 @@ follow_fits packet (suc left) announced k s e outer =
     go : (fine : Bool) → eqb (header_refusal packet s announced e) 0 ≡ fine → (last : Bool)
         → ReadingFits (follow packet left (announces (next packet s)) (suc k) (inside packet s) (end packet s) (protocol packet s ∷ outer))
         → ReadingFits (cond fine (cond last (found (protocol packet s ∷ outer) (inside packet s) (end packet s))
-        (follow packet left (announces (next packet s)) (suc k) (inside packet s) (end packet s) (protocol packet s ∷ outer))) (refused (header_refusal packet s announced e) k s))
+        (follow packet left (announces (next packet s)) (suc k) (inside packet s) (end packet s) (protocol packet s ∷ outer)))
+        (refused (header_refusal packet s announced e) k s))
     go true q true more = tt
     go true q false more = more
     go false q last more = header_fits packet s announced e q
@@ -81,7 +84,8 @@ read_fits h packet out = go (ok_size 2 h) (follow packet h 0 0 0 (length packet)
     go false reading f = record { some = omega arith; most = omega arith }
 
 -- ---- what the C caller reads back from the answer and a slice that has room for the numbers
-back : (read : Read) → ReadFits read → (answer : List ℕ) → 4 ≤ length answer → unpack_read (four_packed (read_four read) answer) (four_numbers (read_four read) answer) ≡ read
+back : (read : Read) → ReadFits read → (answer : List ℕ) → 4 ≤ length answer → unpack_read (four_packed (read_four read) answer)
+    (four_numbers (read_four read) answer) ≡ read
 unfolding unpack_read four_packed four_numbers
 back read f [] long = absurd (omega arith)
 back read f (x ∷ []) long = absurd (omega arith)

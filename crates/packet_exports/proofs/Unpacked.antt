@@ -32,7 +32,14 @@ unfolding unpack_look
 look_back Look.Delivered f = refl
 look_back (Look.Forward v g n c) f =
     let m = forward_read v g n c f in
-    simp (eq-eqb (is_refused (pack_forward v g n c)) 0 m.told, ne_eqb (is_found (pack_forward v g n c)) 0 (λ e. omega (arith, e, m.found)), m.hops, m.applies, m.numbered, m.priced)
+    simp (
+      eq-eqb (is_refused (pack_forward v g n c)) 0 m.told,
+      ne_eqb (is_found (pack_forward v g n c)) 0 (λ e. omega (arith, e, m.found)),
+      m.hops,
+      m.applies,
+      m.numbered,
+      m.priced,
+    )
 look_back (Look.Refused r) f = refusal_read r f _ Look.Refused
 
 pub look_apart : (a b : Look) → LookFits a → LookFits b → pack_look a ≡ pack_look b → a ≡ b

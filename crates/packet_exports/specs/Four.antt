@@ -44,4 +44,11 @@ unpack_read r numbers =
 
 -- and so a journey
 unfoldable pub unpack_carry : ℕ → List ℕ → Journey
-unpack_carry r numbers = record { hops = get_or numbers 0 0; spent = get_or numbers 1 0; node = get_or numbers 2 0; number = get_or numbers 3 0; refused = end_in r }
+unpack_carry r numbers = record {
+  hops = get_or numbers 0 0;
+  spent = get_or numbers 1 0;
+  node = get_or numbers 2 0;
+  number = get_or numbers 3 0;
+  refused =
+      end_in r;
+}

@@ -65,7 +65,8 @@ pub extern "C" fn bannogwy_carry(
     limit: usize,
     answer: &mut [u64],
 ) -> u64
-    ensures { FourExported (carry_four (carry_of (network_of n p h links.now functions.now) (table_of cost.now way.now waiting.now) node destination stack.now limit))
+    ensures { FourExported
+        (carry_four (carry_of (network_of n p h links.now functions.now) (table_of cost.now way.now waiting.now) node destination stack.now limit))
         answer.old result answer.new }
 {
     if answer.len() < 4 {

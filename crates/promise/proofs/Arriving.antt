@@ -51,17 +51,21 @@ module _ (net : Network) (ok : Network16 net) (t : Table) (r : Reached net t) (D
   journey_arrives : (left U N : ℕ) → U < net.n → Stack net N → rank net t D (cost_of net t U D N) ≤ left → cost_of net t U D N ≢ no_row
       → Arrives net D (cost_of net t U D N) (journey net t D left U N)
   journey_arrives zero U N u n h c = bool_cases (home net U D N)
-      (λ e. subst (Arrives net D (cost_of net t U D N)) (sym (ap (onward net t D 0 (λ W M. stop W M 8) U N) (looks_home net ok t r D d U N u n e))) (arrives_home net ok D (cost_of net t U D N) U N n.some e))
+      (λ e. subst (Arrives net D (cost_of net t U D N)) (sym (ap (onward net t D 0 (λ W M. stop W M 8) U N) (looks_home net ok t r D d U N u n e)))
+      (arrives_home net ok D (cost_of net t U D N) U N n.some e))
       (λ e. absurd (none_left _ _ (rank_falls net ok t r D d U N u n e c) h))
   journey_arrives (suc left) U N u n h c = bool_cases (home net U D N)
-      (λ e. subst (Arrives net D (cost_of net t U D N)) (sym (ap (onward net t D (suc left) (journey net t D left) U N) (looks_home net ok t r D d U N u n e))) (arrives_home net ok D (cost_of net t U D N) U N n.some e))
+      (λ e. subst (Arrives net D (cost_of net t U D N))
+      (sym (ap (onward net t D (suc left) (journey net t D left) U N) (looks_home net ok t r D d U N u n e)))
+      (arrives_home net ok D (cost_of net t U D N) U N n.some e))
       (λ e. let g = goes_on net ok t r U D N (away_row net ok t r D d U N u n e) c in
       subst (Arrives net D (cost_of net t U D N)) (sym (ap (onward net t D (suc left) (journey net t D left) U N) (looks_on net ok t r D d U N u n e c)))
       (arrives_after net ok D (cost_of net t U D N) (cost_of net t (next_of net t U D N) D (result_of net t U D N)) _ _ g.pays
       (journey_arrives left (next_of net t U D N) (result_of net t U D N) g.next_node g.next_stack (one_less _ _ left (rank_falls net ok t r D d U N u n e c) h)
       (still_priced _ _ _ g.pays (cost_most net ok t r U D N c u d n)))))
 
-module _ (net : Network) (ok : Network16 net) (t : Table) (U D W f M c : ℕ) (stack : List ℕ) (r : Reached net t) (e : lookup_of net t U D stack ≡ Look.Forward W f M c) where
+module _ (net : Network) (ok : Network16 net) (t : Table) (U D W f M c : ℕ) (stack : List ℕ) (r : Reached net t)
+    (e : lookup_of net t U D stack ≡ Look.Forward W f M c) where
   carry_arrives : (limit : ℕ) → limit ≤ 16384 → rows_each net ≤ limit → Arrives net D c (carry_of net t U D stack limit)
   unfolding carry_of
   carry_arrives limit few enough =

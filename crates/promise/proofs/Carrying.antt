@@ -34,7 +34,8 @@ module _ (net : Network) (ok : Network16 net) (D : ℕ) (d : D < net.n) where
       omega (arith, later_falls (graph_of net D) (later net ok D d (sized net r) l) (vertex net U N), cost_is net U D N b n t, cost_is net U D N b n u)
 
   -- a packet that is home has arrived
-  home_carried : (t : Table) → Reached net t → (U c : ℕ) (stack : List ℕ) → Packet net U D stack → home net U D (number net.p stack) ≡ true → Carried net D t U stack c
+  home_carried : (t : Table) → Reached net t → (U c : ℕ) (stack : List ℕ) → Packet net U D stack → home net U D (number net.p stack) ≡ true
+      → Carried net D t U stack c
   home_carried t r U c stack k e =
       let N = number net.p stack in
       let h = at_home net ok U D N e in
@@ -59,7 +60,8 @@ module _ (net : Network) (ok : Network16 net) (D : ℕ) (d : D < net.n) where
     result = stack_of net.p net.h (result_of net t U D N)
 
     hop_carried : home net U D N ≡ false → cost_of net t U D N ≢ no_row → cost_of net t U D N ≤ c
-        → ((u : Table) → Later net t u → Packet net W D result → cost_of net u W D (number net.p result) ≤ c - weight net U f W → Carried net D u W result (c - weight net U f W))
+        → ((u : Table) → Later net t u → Packet net W D result → cost_of net u W D (number net.p result) ≤ c - weight net U f W
+        → Carried net D u W result (c - weight net U f W))
         → Carried net D t U stack c
     hop_carried e priced most rest =
         let g = goes_on net ok t r U D N (away_row net ok t r U D stack k e) priced in
@@ -86,7 +88,8 @@ module _ (net : Network) (ok : Network16 net) (D : ℕ) (d : D < net.n) where
       less : home net U D (number net.p stack) ≡ false
           → c - weight net U (function_of net t U D (number net.p stack)) (next_of net t U D (number net.p stack)) < m
       less e =
-          let g = goes_on net ok t r U D (number net.p stack) (away_row net ok t r U D stack k e) (λ (z : cost_of net t U D (number net.p stack) ≡ no_row). omega arith) in
+          let g = goes_on net ok t r U D (number net.p stack) (away_row net ok t r U D stack k e) (λ (z : cost_of net t U D (number net.p stack) ≡ no_row).
+          omega arith) in
           omega (arith, g.pays, g.some)
 
 -- what is shown, carries, in every later table

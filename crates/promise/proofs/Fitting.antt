@@ -82,7 +82,8 @@ module _ (net : Network) (right : refusal_of net ≡ 0) where
         before = rw (of_place net i) (cleared_fits i b)
 
         here : W ≡ U → get_or (delivered net t Q U D N).waiting (place net W E M) 0 < 2 ^ 32
-        here q = subst (λ (X : ℕ). get_or (cleared net t Q U D N).waiting (place net X E M) 0 < 2 ^ 32 → get_or (delivered net t Q U D N).waiting (place net X E M) 0 < 2 ^ 32) (sym q)
+        here q = subst (λ (X : ℕ). get_or (cleared net t Q U D N).waiting (place net X E M) 0 < 2 ^ 32 → get_or (delivered net t Q U D N).waiting
+            (place net X E M) 0 < 2 ^ 32) (sym q)
             (λ old. rw (waiting_here net t Q U D N s (goes net t Q U D N e).receiver E M (is_row net i b).destination (is_row net i b).stack)
             (either_fits (took net t Q U D N E M) _ _ (with_all_fits _ (neighbours net U) old (neighbours_fits net U right)) old))
             before

@@ -1,4 +1,5 @@
--- No carry meets a broken row, and one with the largest step limit never runs out of it: costs fall strictly from hop to hop, so that a packet meets no row twice.
+-- No carry meets a broken row, and one with the largest step limit never runs out of it: costs fall strictly from hop to hop, so that a packet meets no row
+-- twice.
 use Prim.Native.Nat.{ℕ, zero, suc, ◌≤◌, ◌<◌}
 use native.Mathlib.Decide.{ℕ_discrete}
 use native.Mathlib.Nat.{le_refl}
@@ -73,7 +74,8 @@ module _ (net : Network) (ok : Network16 net) (t : Table) (r : Reached net t) (D
     rank_falls e c =
         let g = goes_on net ok t r U D N (away_row e) c in
         let same = cost_is net U D N u n t in
-        rw same at (rank_lt net t D (cost_of net t (next_of net t U D N) D (result_of net t U D N)) (vertex net U N) (vertex_below net U N u n) (omega (arith, same, g.pays, g.some)))
+        rw same at (rank_lt net t D (cost_of net t (next_of net t U D N) D (result_of net t U D N)) (vertex net U N) (vertex_below net U N u n)
+        (omega (arith, same, g.pays, g.some)))
 
   -- ---- so hops enough for the rank are enough
   journey_ends : (left U N : ℕ) → U < net.n → Stack net N → rank net t D (cost_of net t U D N) ≤ left → (journey net t D left U N).refused ≢ 8

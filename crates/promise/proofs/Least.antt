@@ -26,16 +26,19 @@ use Rattle.promise.proofs.Routing.{route_there, route_of}
 
 module _ (net : Network) (ok : Network16 net) where
   -- in every table that can come to be a route costs what is shown
-  pub attained_always : (t : Table) (U D W f M c : ℕ) (stack : List ℕ) → Reached net t → lookup_of net t U D stack ≡ Look.Forward W f M c → Route net D U stack c
+  pub attained_always : (t : Table) (U D W f M c : ℕ) (stack : List ℕ) → Reached net t → lookup_of net t U D stack ≡ Look.Forward W f M c
+      → Route net D U stack c
   attained_always t U D W f M c stack r e =
       let s = shown net t U D W f M c stack e in
       let d = s.asked.destination in
       let v = vertex net U (number net.p stack) in
       let cost = cost_is net U D (number net.p stack) s.asked.node (numbered net ok stack s.asked.stack_ok) t ∙ s.cost in
       route_of net ok D d U c stack s.asked.stack_ok
-      (subst (theory.Route (graph_of net D) v) cost (routed (graph_of net D) (bridge net ok D d).lawful (reached net ok D d r) v (λ z. s.priced (sym cost ∙ z))))
+      (subst (theory.Route (graph_of net D) v) cost (routed (graph_of net D) (bridge net ok D d).lawful (reached net ok D d r) v
+      (λ z. s.priced (sym cost ∙ z))))
 
-  pub attained : (t : Table) (U D W f M c : ℕ) (stack : List ℕ) → Reached net t → Quiet net t → lookup_of net t U D stack ≡ Look.Forward W f M c → Route net D U stack c
+  pub attained : (t : Table) (U D W f M c : ℕ) (stack : List ℕ) → Reached net t → Quiet net t → lookup_of net t U D stack ≡ Look.Forward W f M c
+      → Route net D U stack c
   attained t U D W f M c stack r q e = attained_always t U D W f M c stack r e
 
   pub least : (t : Table) (U D W f M c cost : ℕ) (stack : List ℕ) → Reached net t → Quiet net t

@@ -50,7 +50,8 @@ numbered net ok stack e = within net.p net.h (number net.p stack) (number_in_ran
 
 -- ---- the tests that lead to a row's own answer
 forward_tests : (a b c d e : Bool) (r w x y z W f M k : ℕ)
-    → cond a (cond b (cond c Look.Delivered (cond d (Look.Refused 6) (cond e (Look.Forward w x y z) (Look.Refused 7)))) (Look.Refused 4)) (Look.Refused r) ≡ Look.Forward W f M k
+    → cond a (cond b (cond c Look.Delivered (cond d (Look.Refused 6) (cond e (Look.Forward w x y z) (Look.Refused 7)))) (Look.Refused 4)) (Look.Refused r)
+    ≡ Look.Forward W f M k
     → (b ≡ true) × (c ≡ false) × (d ≡ false) × (z ≡ k)
 forward_tests true true false false true r w x y z W f M k q = (refl, refl, refl, (cc))
 forward_tests true true false false false r w x y z W f M k q = absurd (let o : ◌≡◌ {A = ℕ} 0 1 = cc in omega arith)

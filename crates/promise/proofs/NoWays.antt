@@ -59,13 +59,15 @@ module _ (net : Network) (W E M : ℕ) (w : W < net.n) (e : E < net.n) (m : Stac
   }
 
   -- ---- after a delivery
-  module _ (t : Table) (Q U D N : ℕ) (s : Sized net t) (r : message_refusal net t Q U D N ≡ 0) (most : get_or t.cost (place net W E M) 0 ≤ no_row) (old : Holds t) where
+  module _ (t : Table) (Q U D N : ℕ) (s : Sized net t) (r : message_refusal net t Q U D N ≡ 0) (most : get_or t.cost (place net W E M) 0 ≤ no_row)
+      (old : Holds t) where
     -- the row takes an offer: it is not the destination's own, and has a cost now
     taken : W ≡ U → took net t Q U D N E M ≡ true → Holds (delivered net t Q U D N)
     taken q yes_took =
         let offer = offer_to net t Q U D N M in
         let cost : get_or (delivered net t Q U D N).cost (place net W E M) 0 ≡ offer =
-        ap (λ (X : ℕ). get_or (delivered net t Q U D N).cost (place net X E M) 0) q ∙ (changes net t Q U D N s (goes net t Q U D N r).receiver E M e m yes_took).cost in
+        ap (λ (X : ℕ). get_or (delivered net t Q U D N).cost (place net X E M) 0) q
+        ∙ (changes net t Q U D N s (goes net t Q U D N r).receiver E M e m yes_took).cost in
         let less : offer < get_or t.cost (place net W E M) 0 =
         subst (λ (X : ℕ). offer < get_or t.cost (place net X E M) 0) (sym q) (took_less net t Q U D N E M yes_took) in
         record { none = λ z. absurd (omega (arith, z)); own = λ h. absurd (omega (arith, (old.own h).0)) }

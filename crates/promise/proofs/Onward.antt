@@ -40,7 +40,8 @@ module _ (net : Network) (U D N : ℕ) (u : U < net.n) (n : Stack net N) where
   unfolding home_of
   home_is = simp (lt-ltb (vertex net U N) (rows_each net) (vertex_below net U N u n), vertex_node_lem net U N n, vertex_number_lem net U N n)
 
-  pub next_is : (t : Table) → 0 < result_of net t U D N → bridged.vertex_next net D t (vertex net U N) ≡ vertex net (next_of net t U D N) (result_of net t U D N)
+  pub next_is : (t : Table) → 0 < result_of net t U D N → bridged.vertex_next net D t (vertex net U N) ≡ vertex net (next_of net t U D N)
+      (result_of net t U D N)
   unfolding leads_to
   next_is t made =
       next_inside net D t (vertex net U N) (vertex_below net U N u n)
@@ -56,7 +57,8 @@ module _ (net : Network) (ok : Network16 net) (t : Table) (r : Reached net t) (U
       omega (
         arith,
         e,
-        theory.ceiling (graph_of net D) (bridge net ok D d).lawful (reached net ok D d r) (vertex net U N) (λ (z : bridged.vertex_cost net D t (vertex net U N) ≡ no_row). priced (sym e ∙ z)),
+        theory.ceiling (graph_of net D) (bridge net ok D d).lawful (reached net ok D d r) (vertex net U N)
+            (λ (z : bridged.vertex_cost net D t (vertex net U N) ≡ no_row). priced (sym e ∙ z)),
         mul-le-mul_right 131069 few,
       )
 
@@ -71,7 +73,8 @@ module _ (net : Network) (ok : Network16 net) (t : Table) (r : Reached net t) (U
     pub next_stack : Stack net (result_of net t U D N)
     -- the cost pays for the hop, which costs something, and for the rest
     pub some : 0 < weight net U (function_of net t U D N) (next_of net t U D N)
-    pub pays : cost_of net t (next_of net t U D N) D (result_of net t U D N) + weight net U (function_of net t U D N) (next_of net t U D N) ≤ cost_of net t U D N
+    pub pays : cost_of net t (next_of net t U D N) D (result_of net t U D N) + weight net U (function_of net t U D N) (next_of net t U D N) ≤ cost_of net t
+        U D N
 
   module _ (a : Away net U D N) (priced : cost_of net t U D N ≢ no_row) where
     abbrev W : ℕ
@@ -95,9 +98,11 @@ module _ (net : Network) (ok : Network16 net) (t : Table) (r : Reached net t) (U
         let l = led net ok r U D N a priced in
         let m = within net.p net.h M (leads net.p net.h f N M l.makes).to in
         let w = (present_nodes net U W l.linked).1 in
-        let hop : weight_of net (vertex net U N) (vertex net W M) ≡ weight net U f W = (bridge net ok D a.destination).function_hop U W f N M l.can_it l.linked l.makes in
+        let hop : weight_of net (vertex net U N) (vertex net W M) ≡ weight net U f W = (bridge net ok D a.destination).function_hop U W f N M l.can_it
+        l.linked l.makes in
         let next = next_is net U D N a.node a.stack t m.some in
-        let pays : bridged.vertex_cost net D t (vertex net W M) + weight_of net (vertex net U N) (vertex net W M) ≤ bridged.vertex_cost net D t (vertex net U N) = rw next at hop_there.pays in
+        let pays : bridged.vertex_cost net D t (vertex net W M) + weight_of net (vertex net U N) (vertex net W M) ≤ bridged.vertex_cost net D t
+        (vertex net U N) = rw next at hop_there.pays in
         record {
           can_it = l.can_it;
           linked = l.linked;

@@ -60,7 +60,8 @@ module _ (net : Network) (ok : Network16 net) where
     bridge = bridged net ok.valid ok.numbers D d
 
     -- a delivery that goes through is a step: a delivery if it is about D, and else nothing changes
-    pub steps : (t : Table) (Q U E N : ℕ) → Sized net t → message_refusal net t Q U E N ≡ 0 → Step (graph_of net D) (state_of net D t) (state_of net D (delivered net t Q U E N))
+    pub steps : (t : Table) (Q U E N : ℕ) → Sized net t → message_refusal net t Q U E N ≡ 0 → Step (graph_of net D) (state_of net D t)
+        (state_of net D (delivered net t Q U E N))
     steps t Q U E N s e = by_cases (ℕ_discrete D E)
         (λ q. subst (λ (E : ℕ). message_refusal net t Q U E N ≡ 0 → Step (graph_of net D) (state_of net D t) (state_of net D (delivered net t Q U E N))) q
         (λ z. deliver (vertex net Q N) U (bridge.delivery_is_a_step t Q U N s z)) e)
@@ -69,7 +70,8 @@ module _ (net : Network) (ok : Network16 net) where
     pub reached : {t : Table} → Reached net t → Reach (graph_of net D) (state_of net D t)
     reached begun = fresh bridge.fresh_is_fresh
     reached (delivery {t = t} Q U E N r) =
-        delivery_cases net t Q U E N (λ (u : Table). Reach (graph_of net D) (state_of net D u)) (λ e. more (reached r) (steps t Q U E N (sized net r) e)) (reached r)
+        delivery_cases net t Q U E N (λ (u : Table). Reach (graph_of net D) (state_of net D u)) (λ e. more (reached r) (steps t Q U E N (sized net r) e))
+        (reached r)
 
     pub later : {t u : Table} → Sized net t → Later net t u → relax.Later (graph_of net D) (state_of net D t) (state_of net D u)
     later s now = relax.now

@@ -56,7 +56,8 @@ module _ {A B : Type 0} (number : A → ℕ) (values : A → B) (refuses : ℕ �
     (none : number gives ≡ 0) (back : (q : ℕ) → number (refuses q) ≡ q) (clear : (q : ℕ) → values (refuses q) ≡ zeros) where
   read : (r : ℕ) → Reads number values (cond (eqb r 0) gives (refuses r)) r (values gives) zeros
   read r = by_cases (ℕ_discrete r 0)
-      (λ e. subst (λ (x : ℕ). Reads number values (cond (eqb x 0) gives (refuses x)) x (values gives) zeros) (sym e) (record { number_is = none; values_are = refl }))
+      (λ e. subst (λ (x : ℕ). Reads number values (cond (eqb x 0) gives (refuses x)) x (values gives) zeros) (sym e)
+      (record { number_is = none; values_are = refl }))
       (λ other. rw (ne_eqb r 0 other) (record { number_is = back r; values_are = rw (ne_eqb r 0 other) (clear r) }))
 
   -- the same of a routine that has a test, and refusal 4 where it fails
@@ -75,7 +76,8 @@ module _ (p h : ℕ) where
   pub number_of_reads : (s : List ℕ) → Reads stack.refusal stack.value (stack.number_of p h s) (unless (ok_size p h && ok_stack p h s) 4 0) (number p s) 0
   number_of_reads s = read_stack (number p s) (ok_size p h && ok_stack p h s)
 
-  pub stack_of_reads : (n : ℕ) (out : List ℕ) → Reads stack.refusal stack.value (stack.height_of p h n out) (unless (stack.ok_out p h n out) 4 0) (height p h n) 0
+  pub stack_of_reads : (n : ℕ) (out : List ℕ) → Reads stack.refusal stack.value (stack.height_of p h n out) (unless (stack.ok_out p h n out) 4 0)
+      (height p h n) 0
   stack_of_reads n out = read_stack (height p h n) (stack.ok_out p h n out)
 
   pub inverse_reads : (f : ℕ) → Reads stack.refusal stack.value (function.inverse_of p f) (unless (leb 1 p && (leb p 8 && ok_function p f)) 4 0) (inverse f) 0
@@ -100,7 +102,8 @@ pub hear_reads : (g : Gateway) (m : Message) (r : Rows) → Reads heard_refusal 
 hear_reads g m r = read heard_refusal heard_rows Heard.Refused (Heard.Rows (taken g m r)) 0 refl (λ q. refl) (λ q. refl) (hear_refusal g m r)
 
 module _ (net : Network) (t : Table) where
-  read_count : (messages : ℕ) → Reads counted_refusal counted_messages (cond (eqb (refusal net t) 0) (Counted.Messages messages) (Counted.Refused (refusal net t))) (refusal net t) messages 0
+  read_count : (messages : ℕ) → Reads counted_refusal counted_messages (cond (eqb (refusal net t) 0) (Counted.Messages messages)
+      (Counted.Refused (refusal net t))) (refusal net t) messages 0
   read_count messages = read counted_refusal counted_messages Counted.Refused (Counted.Messages messages) 0 refl (λ q. refl) (λ q. refl) (refusal net t)
 
   pub fresh_reads : Reads counted_refusal counted_messages (fresh_answer net t) (refusal net t) (ones_in (fresh net).waiting) 0
@@ -113,14 +116,17 @@ module _ (net : Network) (t : Table) where
   found_reads Found.Nowhere = refl
   found_reads (Found.At i U) = refl
 
-  pub first_reads : Reads first_refusal first_message (first_answer net t) (refusal net t) (first_message (first_of net t (first_in t.waiting))) (first_message First.Quiet)
+  pub first_reads : Reads first_refusal first_message (first_answer net t) (refusal net t) (first_message (first_of net t (first_in t.waiting)))
+      (first_message First.Quiet)
   first_reads =
       read first_refusal first_message First.Refused (first_of net t (first_in t.waiting)) (first_message First.Quiet)
       (found_reads (first_in t.waiting)) (λ q. refl) (λ q. refl) (refusal net t)
 
-  pub deliver_reads : (Q U D N : ℕ) → Reads delivered_refusal delivered_rows (deliver_answer net t Q U D N) (deliver_refusal net t Q U D N) (offers_taken net t Q U D N) 0
+  pub deliver_reads : (Q U D N : ℕ) → Reads delivered_refusal delivered_rows (deliver_answer net t Q U D N) (deliver_refusal net t Q U D N)
+      (offers_taken net t Q U D N) 0
   deliver_reads Q U D N =
-      read delivered_refusal delivered_rows Delivered.Refused (Delivered.Rows (offers_taken net t Q U D N)) 0 refl (λ q. refl) (λ q. refl) (deliver_refusal net t Q U D N)
+      read delivered_refusal delivered_rows Delivered.Refused (Delivered.Rows (offers_taken net t Q U D N)) 0 refl (λ q. refl) (λ q. refl)
+      (deliver_refusal net t Q U D N)
 
 -- ---- a lookup's
 pub refused_is : (l : Look) (r : ℕ) → look_refusal l ≡ suc r → l ≡ Look.Refused (suc r)

@@ -27,7 +27,8 @@ module _ (net : Network) (ok : Network16 net) where
   turn_ended rest k on t r Found.Nowhere e = (refl, λ h. nowhere_quiet t.waiting e)
   turn_ended rest k on t r (Found.At i U) e =
       let z = found_goes net ok t r i U e in
-      let o = on (delivered net t (node_at net i) U (destination_at net i) (number_at net i)) (made net ok t (node_at net i) U (destination_at net i) (number_at net i) r z) in
+      let o = on (delivered net t (node_at net i) U (destination_at net i) (number_at net i)) (made net ok t (node_at net i) U (destination_at net i)
+      (number_at net i) r z) in
       rw (eq-eqb (message_refusal net t (node_at net i) U (destination_at net i) (number_at net i)) 0 z) (o.0, λ h. o.1 (omega arith))
 
   steps_ended : (k : ℕ) (t : Table) → Reached net t → Ended k (steps net k t)
@@ -55,7 +56,8 @@ module _ (net : Network) (ok : Network16 net) where
   turn_again a b on t r (Found.At i U) e =
       let z = found_goes net ok t r i U e in
       rw (eq-eqb (message_refusal net t (node_at net i) U (destination_at net i) (number_at net i)) 0 z)
-      (on (delivered net t (node_at net i) U (destination_at net i) (number_at net i)) (made net ok t (node_at net i) U (destination_at net i) (number_at net i) r z))
+      (on (delivered net t (node_at net i) U (destination_at net i) (number_at net i)) (made net ok t (node_at net i) U (destination_at net i)
+      (number_at net i) r z))
 
   steps_again : (a b : ℕ) (t : Table) → Reached net t → (steps net b (steps net a t).table).table ≡ (steps net (a + b) t).table
   steps_again zero b t r = let e : b ≡ 0 + b = omega arith in ap (λ (k : ℕ). (steps net k t).table) e

@@ -29,7 +29,8 @@ use Rattle.promise.proofs.Homes.{one_ok, one_home, at_home}
 module _ (net : Network) (ok : Network16 net) (D : ℕ) (d : D < net.n) where
   -- ---- from the specification to the theory
   -- a hop over stacks is one over their numbers
-  module _ (U W f : ℕ) (stack result : List ℕ) (can_it : can net U f ≡ true) (fits : ok_stack net.p net.h stack ≡ true) (makes : apply net.h f stack ≡ becomes result) where
+  module _ (U W f : ℕ) (stack result : List ℕ) (can_it : can net U f ≡ true) (fits : ok_stack net.p net.h stack ≡ true)
+      (makes : apply net.h f stack ≡ becomes result) where
     result_fits : ok_stack net.p net.h result ≡ true
     result_fits = stays_a_stack net.p net.h (valid net ok.valid).size f stack result (can_function net U f can_it).1 fits makes
 
@@ -41,7 +42,8 @@ module _ (net : Network) (ok : Network16 net) (D : ℕ) (d : D < net.n) where
           from = number_in_range net.p net.h size stack fits;
           by = (can_function net U f can_it).1;
           to = number_in_range net.p net.h size result result_fits;
-          makes = ap (apply net.h f) (stack_of_number net.p net.h size stack fits) ∙ makes ∙ ap becomes (sym (stack_of_number net.p net.h size result result_fits));
+          makes = ap (apply net.h f) (stack_of_number net.p net.h size stack fits) ∙ makes
+              ∙ ap becomes (sym (stack_of_number net.p net.h size result result_fits));
         })
 
     route_hop : present net U W ≡ true → (cost : ℕ) → theory.Route (graph_of net D) (vertex net W (number net.p result)) cost
@@ -49,7 +51,8 @@ module _ (net : Network) (ok : Network16 net) (D : ℕ) (d : D < net.n) where
     route_hop linked cost rest =
         let u = vertex net U (number net.p stack) in
         let v = vertex net W (number net.p result) in
-        let same : weight_of net u v ≡ weight net U f W = (bridge net ok D d).function_hop U W f (number net.p stack) (number net.p result) can_it linked numbers_hop in
+        let same : weight_of net u v ≡ weight net U f W = (bridge net ok D d).function_hop U W f (number net.p stack) (number net.p result) can_it linked
+        numbers_hop in
         let sum : cost + weight_of net u v ≡ weight net U f W + cost = omega arith in
         subst (theory.Route (graph_of net D) u) sum (theory.via {u = u} {v = v} (omega (arith, same, weight_some net U f W linked)) rest)
 
@@ -75,7 +78,8 @@ module _ (net : Network) (ok : Network16 net) (D : ℕ) (d : D < net.n) where
       subst (λ (s : List ℕ). Route net D (vertex_node net v) s 0) (sym h.one)
       (subst (λ (X : ℕ). Route net D X ((vertex_number net v - 1) ∷ []) 0) (sym h.there) (arrived (vertex_number net v - 1) h.accepted))
 
-  hop_route : (u v k : ℕ) → 0 < weight_of net u v → Route net D (vertex_node net v) (stack_at v) k → Route net D (vertex_node net u) (stack_at u) (k + weight_of net u v)
+  hop_route : (u v k : ℕ) → 0 < weight_of net u v → Route net D (vertex_node net v) (stack_at v) k → Route net D (vertex_node net u) (stack_at u)
+      (k + weight_of net u v)
   hop_route u v k there rest =
       let w = (bridge net ok D d).hop_function u v there in
       let f = w.0 in
@@ -83,7 +87,8 @@ module _ (net : Network) (ok : Network16 net) (D : ℕ) (d : D < net.n) where
       let l = leads net.p net.h f (vertex_number net u) (vertex_number net v) by.makes in
       let fits = stack_in_range net.p net.h l.size (vertex_number net u) l.from in
       let sum : weight net (vertex_node net u) f (vertex_node net v) + k ≡ k + weight_of net u v = omega (arith, by.weighs) in
-      subst (Route net D (vertex_node net u) (stack_at u)) sum (hop (vertex_node net u) (vertex_node net v) f k (stack_at u) (stack_at v) by.has_it by.linked fits l.makes rest)
+      subst (Route net D (vertex_node net u) (stack_at u)) sum (hop (vertex_node net u) (vertex_node net v) f k (stack_at u) (stack_at v) by.has_it
+      by.linked fits l.makes rest)
 
   pub route_back : {v k : ℕ} → theory.Route (graph_of net D) v k → Route net D (vertex_node net v) (stack_at v) k
   route_back (theory.here {v = v} e) = home_route v e

@@ -1,4 +1,5 @@
--- Deliveries end, and a run that is long enough leaves no message waiting: every delivery lowers the theory's measure for its destination and leaves the others'.
+-- Deliveries end, and a run that is long enough leaves no message waiting: every delivery lowers the theory's measure for its destination and leaves the
+-- others'.
 use Prim.Native.Nat.{ℕ, zero, suc, ◌+◌, ◌*◌, ◌≤◌, ◌<◌}
 use native.Mathlib.Decide.{ℕ_discrete, dec_lt}
 use native.Mathlib.Nat.{le_of_lt}
@@ -107,7 +108,8 @@ module _ (net : Network) where
 
     step_goes : {t : Table} → Reached net t → (Q U D N : ℕ) → deliver_refusal net t Q U D N ≡ 0 → message_refusal net t Q U D N ≡ 0
     unfolding deliver_refusal
-    step_goes {t} r Q U D N e = let same : deliver_refusal net t Q U D N ≡ message_refusal net t Q U D N = simp (eq-eqb (refusal net t) 0 (reached_refusal net ok r)) in sym same ∙ e
+    step_goes {t} r Q U D N e = let same : deliver_refusal net t Q U D N ≡ message_refusal net t Q U D N = simp
+        (eq-eqb (refusal net t) 0 (reached_refusal net ok r)) in sym same ∙ e
 
     paid : {k : ℕ} {t : Table} → Done net k t → k + total t ≤ total (fresh net)
     paid begun = omega arith

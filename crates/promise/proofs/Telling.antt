@@ -37,7 +37,8 @@ use Rattle.promise.proofs.Least.{least, none}
 
 -- ---- the tests that lead to "delivered"
 delivered_tests : (a b c d e : Bool) (r w x y z : ℕ)
-    → cond a (cond b (cond c Look.Delivered (cond d (Look.Refused 6) (cond e (Look.Forward w x y z) (Look.Refused 7)))) (Look.Refused 4)) (Look.Refused r) ≡ Look.Delivered
+    → cond a (cond b (cond c Look.Delivered (cond d (Look.Refused 6) (cond e (Look.Forward w x y z) (Look.Refused 7)))) (Look.Refused 4)) (Look.Refused r)
+    ≡ Look.Delivered
     → (b ≡ true) × (c ≡ true)
 delivered_tests true true true d e r w x y z q = (refl, refl)
 delivered_tests true true false true e r w x y z q = absurd (let o : ◌≡◌ {A = ℕ} 0 1 = cc in omega arith)
@@ -73,7 +74,11 @@ module _ (net : Network) (ok : Network16 net) where
   sent {D} (arrived x e) =
       let b = accepts_below net D x e in
       record { node = b.0; destination = b.0; stack_ok = one_ok net ok x b.1 }
-  sent (hop U W f cost stack result can_it linked fits makes rest) = record { node = (present_nodes net U W linked).0; destination = destined rest; stack_ok = fits }
+  sent (hop U W f cost stack result can_it linked fits makes rest) = record {
+    node = (present_nodes net U W linked).0;
+    destination = destined rest;
+    stack_ok = fits;
+  }
 
   -- so one that is home is delivered, whatever the table holds
   pub delivered_there : (t : Table) (D x : ℕ) → refusal net t ≡ 0 → accepts net D x ≡ true → lookup_of net t D D (x ∷ []) ≡ Look.Delivered

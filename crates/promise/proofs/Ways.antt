@@ -86,7 +86,8 @@ module _ (net : Network) where
       let go = goes net t Q Z E M e in
       bool_cases (took net t Q Z E M D N)
       (λ yes_took. by_cases (ℕ_discrete U Z)
-      (λ q. subst (λ (X : ℕ). Leading X N (get_or (delivered net t Q Z E M).way (place net X D N) 0)) (sym q) (led_took ok t s Q Z E M go D N a.destination a.stack yes_took))
+      (λ q. subst (λ (X : ℕ). Leading X N (get_or (delivered net t Q Z E M).way (place net X D N) 0)) (sym q) (led_took ok t s Q Z E M go D N a.destination
+      a.stack yes_took))
       (λ other. led_stays ok t s Q Z E M go D N a.destination a.stack U (λ q. absurd (other q)) (before U D N a) priced))
       (λ not_took. led_stays ok t s Q Z E M go D N a.destination a.stack U (λ q. not_took) (before U D N a) priced)
 

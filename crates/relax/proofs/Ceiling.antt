@@ -1,4 +1,5 @@
--- Every reachable cost is `no_row` or at most `ceiling_of g`. What is kept: v's cost and `dearest` are at most `dearest` for each vertex that costs no more than v.
+-- Every reachable cost is `no_row` or at most `ceiling_of g`. What is kept: v's cost and `dearest` are at most `dearest` for each vertex that costs no more
+-- than v.
 -- (A vertex u that takes an offer from x costs more than all that count for x, so it counts as one more.)
 use Prim.Native.Nat.{ℕ, suc, ◌+◌, ◌-◌, ◌*◌, ◌≤◌, ◌<◌, zero-le}
 use mathlib.Core.Path.{refl, ◌∙◌}

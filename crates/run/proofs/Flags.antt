@@ -123,6 +123,8 @@ flagged_set n stacks flags waiting waiting' U D flagged h l was same =
     on : (i : ℕ) → i < length waiting → (get_or waiting i 0 ≡ 0 → ⊥) ⊎ ((i / stacks / n ≡ U) × (i / stacks % n ≡ D))
         → Marked n stacks flags U (with_one (get_or flags U 0) D) i
     on i m (inl ne) =
-        let was_on = flagged.set i m ne in
-        (λ e. has_more (get_or flags U 0) D (i / stacks % n) below (inr (ap (λ (v : ℕ). has (get_or flags v 0) (i / stacks % n)) (sym e) ∙ was_on)), λ other. was_on)
+        let was_on = flagged.set i m ne in (
+          λ e. has_more (get_or flags U 0) D (i / stacks % n) below (inr (ap (λ (v : ℕ). has (get_or flags v 0) (i / stacks % n)) (sym e) ∙ was_on)),
+          λ other. was_on,
+        )
     on i m (inr block) = (λ e. has_more (get_or flags U 0) D (i / stacks % n) below (inl block.1), λ other. absurd (other block.0))

@@ -29,7 +29,8 @@ use Rattle.run.proofs.Running.{Going, starts, goes_on, stops, all_done, ends_tab
 pub offers_few : (net : Network) (t : Table) (x : ℕ) → refusal_of net ≡ 0 → turn_answer net t ≡ Turn.Offers x → x ≤ 16384
 offers_few net t x right e = go (first_in t.waiting) e
   where
-    pick : (i U : ℕ) (b : Bool) → turn_of (cond b (Delivered.Rows (offers_taken net t (node_at net i) U (destination_at net i) (number_at net i))) (Delivered.Refused (message_refusal net t (node_at net i) U (destination_at net i) (number_at net i)))) ≡ Turn.Offers x
+    pick : (i U : ℕ) (b : Bool) → turn_of (cond b (Delivered.Rows (offers_taken net t (node_at net i) U (destination_at net i) (number_at net i)))
+        (Delivered.Refused (message_refusal net t (node_at net i) U (destination_at net i) (number_at net i)))) ≡ Turn.Offers x
         → x ≤ 16384
     pick i U true d =
         let q : offers_taken net t (node_at net i) U (destination_at net i) (number_at net i) ≡ x = cc in
@@ -109,11 +110,13 @@ module _ (net : Network) (s k : ℕ) (t₀ : Table) where
 pub prepared : (net : Network) (t : Table) (s : ℕ) → Ready net t s → Prepared net s t
 prepared net t s r = record { network = r.network; stacks_are = r.stacks_are; sized = sized_so net t s r }
 
-pub run_begun : (net : Network) (k : ℕ) (t after : Table) (s : ℕ) (answer : Ran) → Ready net t s → Runs (steps net k t) answer after → Runs (run_of net k t) answer after
+pub run_begun : (net : Network) (k : ℕ) (t after : Table) (s : ℕ) (answer : Ran) → Ready net t s → Runs (steps net k t) answer after
+    → Runs (run_of net k t) answer after
 unfolding run_of
 run_begun net k t after s answer r h = subst (λ (o : RunOutcome). Runs o answer after) (sym (begun net t s r (steps net k t) (ends (refusal net t) t))) h
 
-pub run_stopped : (net : Network) (k : ℕ) (t : Table) (r : ℕ) → (refusal net t ≡ r) × (1 ≤ r) → Runs (run_of net k t) (record { done = 0; offers = 0; refused = r }) t
+pub run_stopped : (net : Network) (k : ℕ) (t : Table) (r : ℕ) → (refusal net t ≡ r) × (1 ≤ r)
+    → Runs (run_of net k t) (record { done = 0; offers = 0; refused = r }) t
 unfolding run_of
 run_stopped net k t r h =
     subst (λ (o : RunOutcome). Runs o (record { done = 0; offers = 0; refused = r }) t) (sym (stopped net t r h (steps net k t) (ends (refusal net t) t)))

@@ -60,7 +60,8 @@ module _ (net : Network) (t : Table) (Q U D N : ℕ) (sized : Sized net t) (made
   unfolding offers_taken taken
   none_took zero_taken E M e m =
       sym (takes_took net t Q U D N sized g.receiver E M e m)
-      ∙ how_many_zero (length (rows_at net U (cleared net t Q U D N)).costs) (takes (gateway net U) (message net t Q U D N) (rows_at net U (cleared net t Q U D N)).costs) zero_taken
+      ∙ how_many_zero (length (rows_at net U (cleared net t Q U D N)).costs) (takes (gateway net U) (message net t Q U D N)
+      (rows_at net U (cleared net t Q U D N)).costs) zero_taken
       (vertex net E M) (omega (arith, rows_long net t Q U D N sized g.receiver, vertex_below net E M e m))
 
   -- ---- so the flags stay right
@@ -75,7 +76,8 @@ module _ (net : Network) (t : Table) (Q U D N : ℕ) (sized : Sized net t) (made
   right_here flags f = by_cases (ℕ_discrete (offers_taken net t Q U D N) 0)
       (λ none. simp (le-ltb 0 (offers_taken net t Q U D N) (omega arith))
       (flagged_kept net.n (stacks net) flags t.waiting (delivered net t Q U D N).waiting f
-      (λ i b new z. new (quiet_row i (low_of i b) (λ _. none_took none (destination_at net i) (number_at net i) (is_row net i (low_of i b)).destination (is_row net i (low_of i b)).stack) z))
+      (λ i b new z. new (quiet_row i (low_of i b) (λ _. none_took none (destination_at net i) (number_at net i) (is_row net i (low_of i b)).destination
+      (is_row net i (low_of i b)).stack) z))
       long))
       (λ some. simp (lt-ltb 0 (offers_taken net t Q U D N) (omega (arith, some)))
       (flagged_set net.n (stacks net) flags t.waiting (delivered net t Q U D N).waiting U D f g.receiver g.destination

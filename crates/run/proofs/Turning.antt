@@ -47,7 +47,8 @@ module _ (flags : List ℕ) (U D : ℕ) (answer : Delivered) where
   not_made r e = (sym (ap turn_of e), sym (ap (λ (y : Delivered). flags_after flags U D (delivered_rows y)) e))
 
 -- no message waits
-pub turned_quiet : (net : Network) (s : ℕ) (t : Table) (flags : List ℕ) → Flagged net.n s flags t.waiting → first_in t.waiting ≡ Found.Nowhere → Turned net s t (Turn.Ends 0) t flags
+pub turned_quiet : (net : Network) (s : ℕ) (t : Table) (flags : List ℕ) → Flagged net.n s flags t.waiting → first_in t.waiting ≡ Found.Nowhere
+    → Turned net s t (Turn.Ends 0) t flags
 turned_quiet net s t flags f e = record { answers = sym (ap (turn_at net t) e); table = sym (ap (table_at net t) e); flagged = f }
 
 -- ---- the message at place i waits for U, and the step has answered
@@ -77,7 +78,8 @@ module _ (net : Network) (t : Table) (i U : ℕ) (found : first_in t.waiting ≡
           record {
             answers = ap turn_of e ∙ sym (ap (turn_at net t) found);
             table = q ∙ sym (ap (table_at net t) found);
-            flagged = subst (λ (x : Table). Flagged net.n (stacks net) flags' x.waiting) (sym b) (subst (λ (x : List ℕ). Flagged net.n (stacks net) x (delivered net t Q U D N).waiting) (sym c) right);
+            flagged = subst (λ (x : Table). Flagged net.n (stacks net) flags' x.waiting) (sym b)
+                (subst (λ (x : List ℕ). Flagged net.n (stacks net) x (delivered net t Q U D N).waiting) (sym c) right);
           }
       go false z =
           let a : answer ≡ Delivered.Refused (message_refusal net t Q U D N) = e ∙ simp z in
@@ -86,7 +88,8 @@ module _ (net : Network) (t : Table) (i U : ℕ) (found : first_in t.waiting ≡
           record {
             answers = ap turn_of e ∙ sym (ap (turn_at net t) found);
             table = q ∙ sym (ap (table_at net t) found);
-            flagged = subst (λ (x : Table). Flagged net.n (stacks net) flags' x.waiting) (sym b) (subst (λ (x : List ℕ). Flagged net.n (stacks net) x t.waiting) (sym c) f);
+            flagged = subst (λ (x : Table). Flagged net.n (stacks net) flags' x.waiting) (sym b)
+                (subst (λ (x : List ℕ). Flagged net.n (stacks net) x t.waiting) (sym c) f);
           }
 
   module _ (near : List ℕ) (converts wraps unwraps : List (List (List ℕ))) (own : AllEquipped net near converts wraps unwraps)
@@ -94,16 +97,19 @@ module _ (net : Network) (t : Table) (i U : ℕ) (found : first_in t.waiting ≡
     -- as the code has it, with the s stacks that it was handed
     abbrev Law : ℕ → Type 0
     Law s = Prepared net s t → Flagged net.n s flags t.waiting → back ≡ link net U (i / s / net.n)
-        → Stepped net.n (gateway_of net.p s (get_or near U 0) (get_or converts U []) (get_or wraps U []) (get_or unwraps U [])) back t (i / s / net.n) U (i / s % net.n) (i % s + 1) answer after
+        → Stepped net.n (gateway_of net.p s (get_or near U 0) (get_or converts U []) (get_or wraps U []) (get_or unwraps U [])) back t (i / s / net.n) U
+        (i / s % net.n) (i % s + 1) answer after
         → flags' ≡ flags_after flags U (i / s % net.n) (delivered_rows answer) → Turned net s t (turn_of answer) after flags'
 
     law : Law (stacks net)
     law w f l x e =
-        let d = step_delivers net t w.network w.sized Q U D N (get_or near U 0) (get_or converts U []) (get_or wraps U []) (get_or unwraps U []) (own.each U) (stacks net) back answer after refl l x in
+        let d = step_delivers net t w.network w.sized Q U D N (get_or near U 0) (get_or converts U []) (get_or wraps U []) (get_or unwraps U [])
+        (own.each U) (stacks net) back answer after refl l x in
         turned w answer after flags' f d.0 d.1 e
 
     pub turned_step : (s : ℕ) (turn : Turn) → turn ≡ turn_of answer → Prepared net s t → Flagged net.n s flags t.waiting → back ≡ link net U (i / s / net.n)
-        → Stepped net.n (gateway_of net.p s (get_or near U 0) (get_or converts U []) (get_or wraps U []) (get_or unwraps U [])) back t (i / s / net.n) U (i / s % net.n) (i % s + 1) answer after
+        → Stepped net.n (gateway_of net.p s (get_or near U 0) (get_or converts U []) (get_or wraps U []) (get_or unwraps U [])) back t (i / s / net.n) U
+        (i / s % net.n) (i % s + 1) answer after
         → flags' ≡ flags_after flags U (i / s % net.n) (delivered_rows answer) → Turned net s t turn after flags'
     turned_step s turn same w f l x e = subst (λ (y : Turn). Turned net s t y after flags') (sym same) (subst Law (sym w.stacks_are) law w f l x e)
 

@@ -16,7 +16,8 @@ answer_back (Answer.Refused r) f = refusal_read r f _ Answer.Refused
 
 pub after_back : (a : After) → AfterFits a → unpack_after (pack_after a) ≡ a
 unfolding unpack_after
-after_back (After.Number n) f = value_read n (omega (arith, f.1)) _ _ ∙ ap (λ b. cond b After.NotApplicable (After.Number n)) (ne_eqb n 0 (λ e. omega (arith, e, f.0)))
+after_back (After.Number n) f = value_read n (omega (arith, f.1)) _ _ ∙ ap (λ b. cond b After.NotApplicable (After.Number n))
+    (ne_eqb n 0 (λ e. omega (arith, e, f.0)))
 after_back After.NotApplicable f = refl
 after_back (After.Refused r) f = refusal_read r f _ After.Refused
 

@@ -20,7 +20,8 @@ use Rattle.step.specs.Steps.{told_of, as_delivered}
 use Rattle.step.specs.declared.Told.{Told}
 use Rattle.step.proofs.Tells.{Passed, stopped}
 
-hear_passes : (g : Gateway) (m : Message) (r : Rows) → 1 ≤ g.p → g.p ≤ 8 → g.most ≤ 16384 → m.sender < 32 → m.destination < 32 → 1 ≤ m.number → m.number ≤ g.most
+hear_passes : (g : Gateway) (m : Message) (r : Rows) → 1 ≤ g.p → g.p ≤ 8 → g.most ≤ 16384 → m.sender < 32 → m.destination < 32 → 1 ≤ m.number
+    → m.number ≤ g.most
     → (m.destination + 1) * g.most ≤ length r.costs → length r.ways ≡ length r.costs → length r.waiting ≡ length r.costs → m.cost ≤ ceiling
     → hearing.hear_refusal g m r ≡ 0
 unfolding ok_hearing hearing.hear_refusal
@@ -40,7 +41,8 @@ hear_passes g m r a b c d e f h i j k l =
     )
 
 -- a list of which one element is set and one part put back is as long as it was
-pub put_back_long : (xs : List ℕ) (i word from k : ℕ) (ys : List ℕ) → length ys ≡ length (mid_of from k (set xs i word)) → length (put_mid from k (set xs i word) ys) ≡ length xs
+pub put_back_long : (xs : List ℕ) (i word from k : ℕ) (ys : List ℕ) → length ys ≡ length (mid_of from k (set xs i word))
+    → length (put_mid from k (set xs i word) ys) ≡ length xs
 put_back_long xs i word from k ys long = same_len_mid from k (set xs i word) ys long ∙ length-set xs i word
 
 module _ (n : ℕ) (g : Gateway) (link : ℕ) (t : Table) (Q U D N : ℕ) where
@@ -67,14 +69,16 @@ module _ (n : ℕ) (g : Gateway) (link : ℕ) (t : Table) (Q U D N : ℕ) where
         let here = place_in n g.most Q D N in
         let a = part_long n (n * g.most) t.cost z.costs_are U k.hears in
         let b = part_long n (n * g.most) t.way z.ways_are U k.hears in
-        let w = part_long n (n * g.most) (set t.waiting here (without (get_or t.waiting here 0) U)) (length-set t.waiting here (without (get_or t.waiting here 0) U) ∙ z.waits_are) U k.hears in
+        let w = part_long n (n * g.most) (set t.waiting here (without (get_or t.waiting here 0) U))
+        (length-set t.waiting here (without (get_or t.waiting here 0) U) ∙ z.waits_are) U k.hears in
         hear_passes g message rows z.some z.few z.bounded (omega (arith, k.sends, z.nodes)) (omega (arith, k.known, z.nodes)) k.numbered k.within
         (omega (arith, a, mul-le-mul_right g.most k.known, suc-mul D g.most)) (b ∙ sym a) (w ∙ sym a) (omega (arith, x.cost_is, x.priced))
 
     -- with the lists as the code has them: the receiver's part from `from`, k rows long, and the sender's word with the bit cleared
     module _ (from k word : ℕ) (start : from ≡ U * (n * g.most)) (long : k ≡ n * g.most) (bit : word ≡ without (get_or t.waiting i 0) U)
         (answer : Heard) (after : Rows)
-        (h : Hears g (message_of Q D N c link) (hearing.rows_of (mid_of from k t.cost) (mid_of from k t.way) (mid_of from k (set t.waiting i word))) answer after) where
+        (h : Hears g (message_of Q D N c link) (hearing.rows_of (mid_of from k t.cost) (mid_of from k t.way) (mid_of from k (set t.waiting i word))) answer
+        after) where
       abbrev left : Table
       left = table_of (put_mid from k t.cost after.costs) (put_mid from k t.way after.ways) (put_mid from k (set t.waiting i word) after.waiting)
 

@@ -27,14 +27,16 @@ use Rattle.step.specs.Step as step
 use Rattle.step.specs.InNetwork.{Equipped, step_answer, step_table}
 
 -- ---- the gateway that `step` is told of is the one of the network
-grid_same : (k : ℕ) (n p : ℕ) (functions : List ℕ) (U : ℕ) → k < 3 → hearing.grid_of_kind k (grid_of n p functions U 0) (grid_of n p functions U 1) (grid_of n p functions U 2) ≡ grid_of n p functions U k
+grid_same : (k : ℕ) (n p : ℕ) (functions : List ℕ) (U : ℕ) → k < 3 → hearing.grid_of_kind k (grid_of n p functions U 0) (grid_of n p functions U 1)
+    (grid_of n p functions U 2) ≡ grid_of n p functions U k
 grid_same zero n p functions U low = refl
 grid_same (suc zero) n p functions U low = refl
 grid_same (suc (suc zero)) n p functions U low = refl
 grid_same (suc (suc (suc k))) n p functions U low = absurd (omega arith)
 
 alike : (net : Network) (U : ℕ)
-    → Alike (gateway_of net.p (stacks net) (neighbours net U) (grid_of net.n net.p net.functions U 0) (grid_of net.n net.p net.functions U 1) (grid_of net.n net.p net.functions U 2)) (gateway net U)
+    → Alike (gateway_of net.p (stacks net) (neighbours net U) (grid_of net.n net.p net.functions U 0) (grid_of net.n net.p net.functions U 1)
+    (grid_of net.n net.p net.functions U 2)) (gateway net U)
 alike net U = record {
   p = refl;
   most = refl;
@@ -56,7 +58,17 @@ module _ (net : Network) (t : Table) (right : refusal_of net ≡ 0) (sized : Siz
       let v = valid net right in
       let z = sizes net.p net.h v.size in
       let few : stacks net ≤ 16384 = omega (arith, v.room, mul-le-mul_right (stacks net) v.nodes, one-mul (stacks net)) in
-      simp (le-leb 1 net.p z.some, le-leb net.p 8 z.few, le-leb net.n 32 v.few, le-leb (stacks net) 16384 few, sized.costs, sized.ways, sized.waits, eq-eqb (net.n * (net.n * stacks net)) (net.n * (net.n * stacks net)) refl)
+      simp (
+        le-leb 1 net.p z.some,
+        le-leb net.p 8 z.few,
+        le-leb net.n 32 v.few,
+        le-leb (stacks net) 16384 few,
+        sized.costs,
+        sized.ways,
+        sized.waits,
+        eq-eqb
+            (net.n * (net.n * stacks net)) (net.n * (net.n * stacks net)) refl,
+      )
 
   same_refusal : step.refusal_in net.n net.p (stacks net) (link net U Q) t Q U D N ≡ message_refusal net t Q U D N
   unfolding step.refusal_in
@@ -86,4 +98,5 @@ module _ (net : Network) (t : Table) (right : refusal_of net ≡ 0) (sized : Siz
     pub step_delivers : (s back : ℕ) (answer : Delivered) (after : Table) → s ≡ stacks net → back ≡ link net U Q
         → Stepped net.n (hears s) back t Q U D N answer after → (answer ≡ step_answer net t Q U D N) × (after ≡ step_table net t Q U D N)
     step_delivers s back answer after e l x =
-        same answer after (subst (λ (k : ℕ). Stepped net.n (hears (stacks net)) k t Q U D N answer after) l (subst (λ (k : ℕ). Stepped net.n (hears k) back t Q U D N answer after) e x))
+        same answer after (subst (λ (k : ℕ). Stepped net.n (hears (stacks net)) k t Q U D N answer after) l
+        (subst (λ (k : ℕ). Stepped net.n (hears k) back t Q U D N answer after) e x))

@@ -61,17 +61,23 @@ module _ (n p s link : ℕ) (t : Table) (Q U D N : ℕ) where
 
       pub too_dear : ceiling < c → Told.Refused 7 ≡ told_of n p s link t Q U D N
       unfolding waits_in ok_sender_in
-      too_dear high = refused 7 (fits fit ∙ seven_last n s link t Q U D N good there (simp (lt-leb (cost_in n s t Q D N) ceiling (omega (arith, is_told))))) refl
+      too_dear high = refused 7 (fits fit ∙ seven_last n s link t Q U D N good there (simp (lt-leb (cost_in n s t Q D N) ceiling (omega (arith, is_told)))))
+          refl
 
       pub no_link : c ≤ ceiling → link ≡ 0 → Told.Refused 7 ≡ told_of n p s link t Q U D N
       unfolding waits_in ok_sender_in
-      no_link low none = refused 7 (fits fit ∙ seven_last n s link t Q U D N good there (simp (le-leb (cost_in n s t Q D N) ceiling (omega (arith, is_told)), none))) refl
+      no_link low none = refused 7 (fits fit ∙ seven_last n s link t Q U D N good there
+          (simp (le-leb (cost_in n s t Q D N) ceiling (omega (arith, is_told)), none))) refl
 
       pub tells : c ≤ ceiling → (link ≡ 0 → ⊥) → Told.Row i c ≡ told_of n p s link t Q U D N
       unfolding waits_in ok_sender_in
       tells low some =
           let linked : 0 < link = omega (arith, some) in
-          let sends : (leb (cost_in n s t Q D N) ceiling && ltb 0 link) ≡ true = simp (le-leb (cost_in n s t Q D N) ceiling (omega (arith, is_told)), lt-ltb 0 link linked) in
+          let sends : (leb (cost_in n s t Q D N) ceiling && ltb 0 link) ≡ true = simp (
+            le-leb (cost_in n s t Q D N) ceiling (omega (arith, is_told)),
+            lt-ltb
+                0 link linked,
+          ) in
           simp (fits fit ∙ then_none n s link t Q U D N good there sends, is_at, is_told)
 
 -- ---- and what the answers say
@@ -115,7 +121,8 @@ module _ (n p s link : ℕ) (t : Table) (Q U D N : ℕ) where
           }
       go false q d = absurd (let z : ◌≡◌ {A = ℕ} 0 1 = cc in omega arith)
 
-  pub stopped : (k : ℕ) → told_of n p s link t Q U D N ≡ Told.Refused k → (eqb (refusal_in n p s link t Q U D N) 0 ≡ false) × (refusal_in n p s link t Q U D N ≡ k)
+  pub stopped : (k : ℕ) → told_of n p s link t Q U D N ≡ Told.Refused k → (eqb (refusal_in n p s link t Q U D N) 0 ≡ false)
+      × (refusal_in n p s link t Q U D N ≡ k)
   stopped k e = go (eqb (refusal_in n p s link t Q U D N) 0) refl e
     where
       go : (b : Bool) → eqb (refusal_in n p s link t Q U D N) 0 ≡ b

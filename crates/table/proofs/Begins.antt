@@ -74,7 +74,8 @@ unfolding ok_lengths refusal refusal_by
 is_ready net t s e = go (eqb (refusal_of net) 0) refl (ok_lengths net (length t.cost) (length t.way) (length t.waiting)) refl e
   where
     go : (a : Bool) → eqb (refusal_of net) 0 ≡ a → (b : Bool) → ok_lengths net (length t.cost) (length t.way) (length t.waiting) ≡ b
-        → cond (eqb (cond a (cond b 0 3) (refusal_of net)) 0) (Checked.Stacks (stacks net)) (Checked.Refused (cond a (cond b 0 3) (refusal_of net))) ≡ Checked.Stacks s → Ready net t s
+        → cond (eqb (cond a (cond b 0 3) (refusal_of net)) 0) (Checked.Stacks (stacks net)) (Checked.Refused (cond a (cond b 0 3) (refusal_of net)))
+        ≡ Checked.Stacks s → Ready net t s
     go true u true v d =
         let l = both (eqb (length t.cost) (rows_all net)) (eqb (length t.way) (rows_all net) && eqb (length t.waiting) (rows_all net)) v in
         let m = both (eqb (length t.way) (rows_all net)) (eqb (length t.waiting) (rows_all net)) l.1 in
@@ -95,7 +96,8 @@ unfolding refusal refusal_by
 is_refused net t r e = go (eqb (refusal_of net) 0) refl (ok_lengths net (length t.cost) (length t.way) (length t.waiting)) refl e
   where
     go : (a : Bool) → eqb (refusal_of net) 0 ≡ a → (b : Bool) → ok_lengths net (length t.cost) (length t.way) (length t.waiting) ≡ b
-        → cond (eqb (cond a (cond b 0 3) (refusal_of net)) 0) (Checked.Stacks (stacks net)) (Checked.Refused (cond a (cond b 0 3) (refusal_of net))) ≡ Checked.Refused r → (refusal net t ≡ r) × (1 ≤ r)
+        → cond (eqb (cond a (cond b 0 3) (refusal_of net)) 0) (Checked.Stacks (stacks net)) (Checked.Refused (cond a (cond b 0 3) (refusal_of net)))
+        ≡ Checked.Refused r → (refusal net t ≡ r) × (1 ≤ r)
     go true u true v d = absurd (let z : ◌≡◌ {A = ℕ} 0 1 = cc in omega arith)
     go true u false v d = let q : 3 ≡ r = cc in (simp (u, v) q, omega arith)
     go false u b v d =

@@ -137,7 +137,8 @@ module _ (net : Network) (t : Table) (Q U D N : ℕ) (sized : Sized net t) (node
     unfolding delivered with_rows_in cleared_at
     way_there W other = row_there net U node E M e m t.way sized.ways (after net t Q U D N).ways ways_long W other
 
-    pub waiting_there : (W : ℕ) → (W ≡ U → ⊥) → get_or (delivered net t Q U D N).waiting (place net W E M) 0 ≡ get_or (cleared net t Q U D N).waiting (place net W E M) 0
+    pub waiting_there : (W : ℕ) → (W ≡ U → ⊥) → get_or (delivered net t Q U D N).waiting (place net W E M) 0 ≡ get_or (cleared net t Q U D N).waiting
+        (place net W E M) 0
     unfolding delivered with_rows_in
     waiting_there W other = row_there net U node E M e m (cleared net t Q U D N).waiting cleared_long (after net t Q U D N).waiting waits_long W other
 
@@ -161,14 +162,16 @@ module _ (net : Network) (t : Table) (Q U D N : ℕ) (sized : Sized net t) (node
     unfolding takes took
     takes_took = simp (vertex_node_lem net E M m, vertex_number_lem net E M m, cost_before)
 
-    pub cost_here : get_or (delivered net t Q U D N).cost (place net U E M) 0 ≡ cond (took net t Q U D N E M) (offer_to net t Q U D N M) (get_or t.cost (place net U E M) 0)
+    pub cost_here : get_or (delivered net t Q U D N).cost (place net U E M) 0 ≡ cond (took net t Q U D N E M) (offer_to net t Q U D N M)
+        (get_or t.cost (place net U E M) 0)
     unfolding delivered with_rows_in cleared_at cost_at
     cost_here =
         row_here net U node E M e m t.cost sized.costs (after net t Q U D N).costs costs_long
         ∙ get_or_heard_costs (gateway net U) (told net t Q U D N) (rows net t Q U D N) (vertex net E M) within_rows
         ∙ simp (takes_took, vertex_number_lem net E M m, cost_before)
 
-    pub way_here : get_or (delivered net t Q U D N).way (place net U E M) 0 ≡ cond (took net t Q U D N E M) (256 * Q + leader_of net t Q U D N M) (get_or t.way (place net U E M) 0)
+    pub way_here : get_or (delivered net t Q U D N).way (place net U E M) 0 ≡ cond (took net t Q U D N E M) (256 * Q + leader_of net t Q U D N M)
+        (get_or t.way (place net U E M) 0)
     unfolding delivered with_rows_in cleared_at way_at
     way_here =
         row_here net U node E M e m t.way sized.ways (after net t Q U D N).ways ways_long
@@ -176,7 +179,8 @@ module _ (net : Network) (t : Table) (Q U D N : ℕ) (sized : Sized net t) (node
         ∙ simp (takes_took, vertex_number_lem net E M m, way_before)
 
     pub waiting_here : get_or (delivered net t Q U D N).waiting (place net U E M) 0
-        ≡ cond (took net t Q U D N E M) (with_all (get_or (cleared net t Q U D N).waiting (place net U E M) 0) (neighbours net U)) (get_or (cleared net t Q U D N).waiting (place net U E M) 0)
+        ≡ cond (took net t Q U D N E M) (with_all (get_or (cleared net t Q U D N).waiting (place net U E M) 0) (neighbours net U))
+        (get_or (cleared net t Q U D N).waiting (place net U E M) 0)
     unfolding delivered with_rows_in waiting_at
     waiting_here =
         row_here net U node E M e m (cleared net t Q U D N).waiting cleared_long (after net t Q U D N).waiting waits_long
@@ -187,7 +191,8 @@ module _ (net : Network) (t : Table) (Q U D N : ℕ) (sized : Sized net t) (node
     pub record Changes : Type 0 where
       pub cost : get_or (delivered net t Q U D N).cost (place net U E M) 0 ≡ offer_to net t Q U D N M
       pub way : get_or (delivered net t Q U D N).way (place net U E M) 0 ≡ 256 * Q + leader_of net t Q U D N M
-      pub waiting : get_or (delivered net t Q U D N).waiting (place net U E M) 0 ≡ with_all (get_or (cleared net t Q U D N).waiting (place net U E M) 0) (neighbours net U)
+      pub waiting : get_or (delivered net t Q U D N).waiting (place net U E M) 0 ≡ with_all (get_or (cleared net t Q U D N).waiting (place net U E M) 0)
+          (neighbours net U)
 
     pub changes : took net t Q U D N E M ≡ true → Changes
     changes yes_took = record { cost = cost_here ∙ simp yes_took; way = way_here ∙ simp yes_took; waiting = waiting_here ∙ simp yes_took }
@@ -199,12 +204,18 @@ module _ (net : Network) (t : Table) (Q U D N : ℕ) (sized : Sized net t) (node
 
     pub stays : (W : ℕ) → (W ≡ U → took net t Q U D N E M ≡ false) → Stays W
     stays W not_took = by_cases (ℕ_discrete W U)
-        (λ q. subst Stays (sym q) (record { cost = cost_here ∙ simp (not_took q); way = way_here ∙ simp (not_took q); waiting = waiting_here ∙ simp (not_took q) }))
+        (λ q. subst Stays (sym q) (record {
+          cost = cost_here ∙ simp (not_took q);
+          way = way_here ∙ simp (not_took q);
+          waiting = waiting_here
+              ∙ simp (not_took q);
+        }))
         (λ other. record { cost = cost_there W other; way = way_there W other; waiting = waiting_there W other })
 
 -- ---- the message itself is cleared, and no other
 module _ (net : Network) (t : Table) (Q U D N : ℕ) (sized : Sized net t) where
-  pub cleared_row : Q < net.n → D < net.n → Stack net N → get_or (cleared net t Q U D N).waiting (place net Q D N) 0 ≡ without (get_or t.waiting (place net Q D N) 0) U
+  pub cleared_row : Q < net.n → D < net.n → Stack net N → get_or (cleared net t Q U D N).waiting (place net Q D N) 0 ≡ without
+      (get_or t.waiting (place net Q D N) 0) U
   unfolding cleared_at
   cleared_row q d n =
       let inside : place net Q D N < length t.waiting = omega (arith, place_below net Q D N q d n, sized.waits) in
@@ -218,7 +229,8 @@ module _ (net : Network) (t : Table) (Q U D N : ℕ) (sized : Sized net t) where
 pub offers_most : (net : Network) (t : Table) (Q U D N : ℕ) → offers_taken net t Q U D N ≤ rows_each net
 unfolding offers_taken taken rows_in
 offers_most net t Q U D N =
-    le_trans (how_many_le (length (rows_at net U (cleared net t Q U D N)).costs) (takes (gateway net U) (message net t Q U D N) (rows_at net U (cleared net t Q U D N)).costs))
+    le_trans (how_many_le (length (rows_at net U (cleared net t Q U D N)).costs) (takes (gateway net U) (message net t Q U D N)
+    (rows_at net U (cleared net t Q U D N)).costs))
     (take_le (rows_each net) (drop (U * rows_each net) (cleared net t Q U D N).cost))
   where
     take_le : (k : ℕ) (l : List ℕ) → length (take k l) ≤ k

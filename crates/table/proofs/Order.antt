@@ -17,11 +17,13 @@ module _ (n s back : ℕ) (t : Table) (Q U D N : ℕ) where
   unfolding message_refusal_in
   five_next good bad = simp (good, bad)
 
-  pub seven_last : ok_message_in n s Q U D N ≡ true → waits_in n s t Q U D N ≡ true → ok_sender_in n s back t Q D N ≡ false → message_refusal_in n s back t Q U D N ≡ 7
+  pub seven_last : ok_message_in n s Q U D N ≡ true → waits_in n s t Q U D N ≡ true → ok_sender_in n s back t Q D N ≡ false → message_refusal_in n s back t
+      Q U D N ≡ 7
   unfolding message_refusal_in
   seven_last good waits bad = simp (good, waits, bad)
 
-  pub then_none : ok_message_in n s Q U D N ≡ true → waits_in n s t Q U D N ≡ true → ok_sender_in n s back t Q D N ≡ true → message_refusal_in n s back t Q U D N ≡ 0
+  pub then_none : ok_message_in n s Q U D N ≡ true → waits_in n s t Q U D N ≡ true → ok_sender_in n s back t Q D N ≡ true → message_refusal_in n s back t Q
+      U D N ≡ 0
   unfolding message_refusal_in
   then_none good waits sends = simp (good, waits, sends)
 

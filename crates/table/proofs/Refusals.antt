@@ -30,13 +30,15 @@ module _ (net : Network) (t : Table) where
   ready_then e = is_ready net t (stacks net) (go (eqb (refusal_of net) 0) refl (ok_lengths net (length t.cost) (length t.way) (length t.waiting)) e)
     where
       go : (a : Bool) → eqb (refusal_of net) 0 ≡ a → (b : Bool) → cond a (cond b 0 3) (refusal_of net) ≡ 0
-          → cond (eqb (cond a (cond b 0 3) (refusal_of net)) 0) (Checked.Stacks (stacks net)) (Checked.Refused (cond a (cond b 0 3) (refusal_of net))) ≡ Checked.Stacks (stacks net)
+          → cond (eqb (cond a (cond b 0 3) (refusal_of net)) 0) (Checked.Stacks (stacks net)) (Checked.Refused (cond a (cond b 0 3) (refusal_of net)))
+          ≡ Checked.Stacks (stacks net)
       go true u true d = refl
       go true u false d = absurd (omega arith)
       go false u b d = absurd (eqb-false (refusal_of net) 0 u d)
 
   -- what holds of a refusal and, in a table that is right, of what the call answers there, holds of its answer
-  pub by_refusal : {A : Type 0} (P : A → Type 0) (answer refused : A) → (Ready net t (stacks net) → P answer) → (1 ≤ refusal net t → refusal net t ≤ 3 → P refused)
+  pub by_refusal : {A : Type 0} (P : A → Type 0) (answer refused : A) → (Ready net t (stacks net) → P answer) → (1 ≤ refusal net t → refusal net t ≤ 3
+      → P refused)
       → P (cond (eqb (refusal net t) 0) answer refused)
   by_refusal P answer refused f g = go (eqb (refusal net t) 0) refl
     where

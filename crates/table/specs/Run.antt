@@ -34,7 +34,8 @@ module _ (net : Network) where
   -- the count of deliveries it made, keeps those, and the refused one changes nothing".
   abbrev pub delivering : (Table → RunOutcome) → Table → ℕ → ℕ → ℕ → ℕ → RunOutcome
   delivering rest t Q U D N =
-      cond (eqb (message_refusal net t Q U D N) 0) (one_more (offers_taken net t Q U D N) (rest (delivered net t Q U D N))) (ends (message_refusal net t Q U D N) t)
+      cond (eqb (message_refusal net t Q U D N) 0) (one_more (offers_taken net t Q U D N) (rest (delivered net t Q U D N)))
+      (ends (message_refusal net t Q U D N) t)
 
   -- one turn at what the search found
   abbrev pub turn : (Table → RunOutcome) → Table → Found → RunOutcome

@@ -38,17 +38,20 @@ fits : {r : ℕ} → 1 ≤ r → r ≤ 3 → RefusalFits r
 fits some few = record { some = some; most = omega (arith, few) }
 
 pub count_fits : (net : Network) (t : Table) → CountedFits (count_answer net t)
-count_fits net t = by_refusal net t CountedFits (Counted.Messages (ones_in t.waiting)) (Counted.Refused (refusal net t)) (λ r. omega (arith, count_most net t r)) fits
+count_fits net t = by_refusal net t CountedFits (Counted.Messages (ones_in t.waiting)) (Counted.Refused (refusal net t))
+    (λ r. omega (arith, count_most net t r)) fits
 
 pub fresh_fits : (net : Network) (t : Table) → CountedFits (fresh_answer net t)
-fresh_fits net t = by_refusal net t CountedFits (Counted.Messages (ones_in (fresh net).waiting)) (Counted.Refused (refusal net t)) (λ r. omega (arith, fresh_most net t r)) fits
+fresh_fits net t = by_refusal net t CountedFits (Counted.Messages (ones_in (fresh net).waiting)) (Counted.Refused (refusal net t))
+    (λ r. omega (arith, fresh_most net t r)) fits
 
 -- ---- the first message
 module _ (net : Network) (t : Table) (r : Ready net t (stacks net)) where
   found_fits : (f : Found) → first_in t.waiting ≡ f → FirstFits (first_of net t f)
   found_fits Found.Nowhere e = tt
   found_fits (Found.At i bit) e =
-      let here : Here t.waiting 0 (min (length t.waiting) (length t.waiting)) i bit = first_at t.waiting 0 (length t.waiting) i bit (first_whole t.waiting ∙ e) in
+      let here : Here t.waiting 0 (min (length t.waiting) (length t.waiting)) i bit = first_at t.waiting 0 (length t.waiting) i bit (first_whole t.waiting
+      ∙ e) in
       let row = is_row net i (omega (arith, here.inside, r.waiting_long)) in
       let d = divides net t (stacks net) r in
       record {
@@ -59,4 +62,5 @@ module _ (net : Network) (t : Table) (r : Ready net t (stacks net)) where
       }
 
 pub first_fits : (net : Network) (t : Table) → FirstFits (first_answer net t)
-first_fits net t = by_refusal net t FirstFits (first_of net t (first_in t.waiting)) (First.Refused (refusal net t)) (λ r. found_fits net t r (first_in t.waiting) refl) fits
+first_fits net t = by_refusal net t FirstFits (first_of net t (first_in t.waiting)) (First.Refused (refusal net t))
+    (λ r. found_fits net t r (first_in t.waiting) refl) fits

@@ -38,7 +38,14 @@ pub first_back : (a : First) → FirstFits a → unpack_first (pack_first a) ≡
 unfolding unpack_first
 first_back (First.Message s d n r) f =
     let m = message_read s r d n f in
-    simp (eq-eqb (is_refused (pack_message s r d n)) 0 m.told, ne_eqb (is_found (pack_message s r d n)) 0 (λ e. omega (arith, e, m.found)), m.sends, m.hears, m.known, m.numbered)
+    simp (
+      eq-eqb (is_refused (pack_message s r d n)) 0 m.told,
+      ne_eqb (is_found (pack_message s r d n)) 0 (λ e. omega (arith, e, m.found)),
+      m.sends,
+      m.hears,
+      m.known,
+      m.numbered,
+    )
 first_back First.Quiet f = refl
 first_back (First.Refused r) f = refusal_read r f _ First.Refused
 

@@ -6,12 +6,18 @@ use Rattle.tally.specs.Tally.{added_to, after_delivery, after_run}
 three_rows : after_delivery (record { deliveries = 10; offers = 20; refused = 30 }) (Delivered.Rows 3) ≡ record { deliveries = 11; offers = 23; refused = 30 }
 three_rows = refl
 
-one_refused : after_delivery (record { deliveries = 10; offers = 20; refused = 30 }) (Delivered.Refused 5) ≡ record { deliveries = 10; offers = 20; refused = 31 }
+one_refused : after_delivery (record { deliveries = 10; offers = 20; refused = 30 }) (Delivered.Refused 5)
+    ≡ record { deliveries = 10; offers = 20; refused = 31 }
 one_refused = refl
 
 -- a run that ended in refusal 7 after 4 deliveries with 6 offers
-broken_run : after_run (record { deliveries = 10; offers = 20; refused = 30 }) (record { done = 4; offers = 6; refused = 7 }) ≡ record { deliveries = 14; offers = 26; refused = 31 }
+broken_run : after_run (record { deliveries = 10; offers = 20; refused = 30 }) (record { done = 4; offers = 6; refused = 7 })
+    ≡ record { deliveries = 14; offers = 26; refused = 31 }
 broken_run = refl
 
-full : added_to (record { deliveries = 4294967295; offers = 4294967290; refused = 0 }) 1 6 0 ≡ record { deliveries = 4294967295; offers = 4294967295; refused = 0 }
+full : added_to (record { deliveries = 4294967295; offers = 4294967290; refused = 0 }) 1 6 0 ≡ record {
+  deliveries = 4294967295;
+  offers = 4294967295;
+  refused = 0;
+}
 full = refl

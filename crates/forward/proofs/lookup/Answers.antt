@@ -15,9 +15,11 @@ tab s = let a = s.args in table_of a.cost.now a.way.now a.waiting.now
 
 pub returns-in-Number : goal.returns-in-Number
 returns-in-Number c =
-    looked (net (goal.at.returns-in-Number c).Start) (tab (goal.at.returns-in-Number c).Start) c.args.node c.args.destination c.args.stack.now c.in-Number.stacks c.in-Number.number
+    looked (net (goal.at.returns-in-Number c).Start) (tab (goal.at.returns-in-Number c).Start) c.args.node c.args.destination c.args.stack.now
+    c.in-Number.stacks c.in-Number.number
     c.begin.ensures c.in-Number.is c.look.ensures
 
 pub returns-in-Refused : goal.returns-in-Refused
 returns-in-Refused c =
-    is_over (net (goal.at.returns-in-Refused c).Start) (tab (goal.at.returns-in-Refused c).Start) c.args.node c.args.destination c.args.stack.now _ Look.Refused c.in-Refused.refusal c.begin.ensures c.in-Refused.is
+    is_over (net (goal.at.returns-in-Refused c).Start) (tab (goal.at.returns-in-Refused c).Start) c.args.node c.args.destination c.args.stack.now _
+    Look.Refused c.in-Refused.refusal c.begin.ensures c.in-Refused.is

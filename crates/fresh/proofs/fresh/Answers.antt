@@ -35,4 +35,5 @@ pub returns-in-Refused : goal.returns-in-Refused
 returns-in-Refused c =
     let a = c.args in
     fresh_refused _ _ c.in-Refused.refusal
-    (is_refused (network_of a.n a.p a.h a.links.now a.functions.now) (table_of a.cost.now a.way.now a.waiting.now) c.in-Refused.refusal (sym c.in-Refused.ensures))
+    (is_refused (network_of a.n a.p a.h a.links.now a.functions.now) (table_of a.cost.now a.way.now a.waiting.now) c.in-Refused.refusal
+    (sym c.in-Refused.ensures))

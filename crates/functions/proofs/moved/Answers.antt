@@ -7,7 +7,8 @@ use Rattle.functions.proofs.moved.Goals as goal
 pub moved_by-requires : goal.moved_by-requires
 moved_by-requires c =
     let a = c.args in
-    let m = moves a.p a.most a.f a.number (move_tests a.p a.most a.f a.number (sym c.good_function.ensures ∙ c.if-good_function.true) ∙ c.if-most-number.true) in
+    let m = moves a.p a.most a.f a.number (move_tests a.p a.most a.f a.number (sym c.good_function.ensures ∙ c.if-good_function.true)
+    ∙ c.if-most-number.true) in
     (m.some, m.few, omega arith, m.number, omega arith)
 
 pub returns-then-most-number : goal.returns-then-most-number

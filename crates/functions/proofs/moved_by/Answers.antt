@@ -48,7 +48,8 @@ pub returns-then-rest-p : goal.returns-then-rest-p
 returns-then-rest-p c = let a = c.args in unwrapped a.p a.most a.kind a.a a.b a.number c.if-kind-eq0.false c.if-kind-eq1.false c.if-top-b.true c.if-rest-p.true
 
 pub returns-else-rest-p : goal.returns-else-rest-p
-returns-else-rest-p c = let a = c.args in not_unwrapped a.p a.most a.kind a.a a.b a.number c.if-kind-eq0.false c.if-kind-eq1.false c.if-top-b.true c.if-rest-p.false
+returns-else-rest-p c = let a = c.args in not_unwrapped a.p a.most a.kind a.a a.b a.number c.if-kind-eq0.false c.if-kind-eq1.false c.if-top-b.true
+    c.if-rest-p.false
 
 pub returns-else-top-b : goal.returns-else-top-b
 returns-else-top-b c = let a = c.args in one_high a.p a.most a.kind a.a a.b a.number c.if-kind-eq0.false c.if-kind-eq1.false c.if-top-b.false

@@ -37,10 +37,12 @@ pub overflow_add-node-2 : goal.overflow_add-node-2
 overflow_add-node-2 c = (row (goal.at.overflow_add-node-2 c).Else-not-n-node).row
 
 pub overflow_mul-node-3 : goal.overflow_mul-node-3
-overflow_mul-node-3 c = let z = place (goal.at.overflow_mul-node-3 c).Else-not-n-node in product_fits _ _ (omega (arith, (row (goal.at.overflow_mul-node-3 c).Else-not-n-node).low)) (omega (arith, z.few))
+overflow_mul-node-3 c = let z = place (goal.at.overflow_mul-node-3 c).Else-not-n-node in
+    product_fits _ _ (omega (arith, (row (goal.at.overflow_mul-node-3 c).Else-not-n-node).low)) (omega (arith, z.few))
 
 pub overflow_add-node-3 : goal.overflow_add-node-3
-overflow_add-node-3 c = let z = place (goal.at.overflow_add-node-3 c).Else-not-n-node in place_fits _ _ _ (omega (arith, (row (goal.at.overflow_add-node-3 c).Else-not-n-node).low)) (omega (arith, z.few)) (omega (arith, z.few, z.to))
+overflow_add-node-3 c = let z = place (goal.at.overflow_add-node-3 c).Else-not-n-node in
+    place_fits _ _ _ (omega (arith, (row (goal.at.overflow_add-node-3 c).Else-not-n-node).low)) (omega (arith, z.few)) (omega (arith, z.few, z.to))
 
 pub returns : goal.returns
 returns c =

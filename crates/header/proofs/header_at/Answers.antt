@@ -38,7 +38,8 @@ by_version-requires c = omega (arith, held (goal.at.by_version-requires c).Else-
 pub returns-then-e-s : goal.returns-then-e-s
 returns-then-e-s c =
     let a = c.args in
-    ap (answered a.packet.now a.s) (too_short a.packet.now a.s a.announced a.e c.if-packet-e.false (shortest_is a.packet.now a.s c.by_version.ensures) c.if-e-s.true)
+    ap (answered a.packet.now a.s) (too_short a.packet.now a.s a.announced a.e c.if-packet-e.false (shortest_is a.packet.now a.s c.by_version.ensures)
+    c.if-e-s.true)
 
 pub version_fits-requires : goal.version_fits-requires
 version_fits-requires c = omega (arith, held (goal.at.version_fits-requires c).Else-packet-e)
@@ -53,10 +54,12 @@ returns-then-version_fits c =
     let a = c.args in
     c.rest_judged.ensures
     ∙ ap (answered a.packet.now a.s)
-    (as_rest a.packet.now a.s a.announced a.e c.if-packet-e.false (room (goal.at.returns-then-version_fits c).Else-e-s) (sym c.version_fits.ensures ∙ c.if-version_fits.true))
+    (as_rest a.packet.now a.s a.announced a.e c.if-packet-e.false (room (goal.at.returns-then-version_fits c).Else-e-s) (sym c.version_fits.ensures
+    ∙ c.if-version_fits.true))
 
 pub returns : goal.returns
 returns c =
     let a = c.args in
     ap (answered a.packet.now a.s)
-    (wrong_version a.packet.now a.s a.announced a.e c.if-packet-e.false (room (goal.at.returns c).Else-e-s) (sym c.version_fits.ensures ∙ c.if-version_fits.false))
+    (wrong_version a.packet.now a.s a.announced a.e c.if-packet-e.false (room (goal.at.returns c).Else-e-s) (sym c.version_fits.ensures
+    ∙ c.if-version_fits.false))

@@ -7,7 +7,8 @@ use Rattle.hear.proofs.hear.Given as goal
 
 abbrev pub invariant-loop-i : goal.invariant-loop-i
 invariant-loop-i l =
-    Heeds (gateway_of l.p l.most l.neighbours (get_or l.grids 0 []) (get_or l.grids 1 []) (get_or l.grids 2 [])) (message_of l.sender l.destination l.number l.cost l.link)
+    Heeds (gateway_of l.p l.most l.neighbours (get_or l.grids 0 []) (get_or l.grids 1 []) (get_or l.grids 2 [])) (message_of l.sender l.destination l.number
+    l.cost l.link)
     (rows_of l.initial.costs l.initial.ways l.initial.waiting) (rows_of l.costs l.ways l.waiting) l.i l.count
 
 abbrev pub decreases-loop-i : goal.decreases-loop-i

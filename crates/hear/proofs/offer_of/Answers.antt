@@ -31,7 +31,8 @@ pub overflow_sub-result : goal.overflow_sub-result
 overflow_sub-result c = (passes (goal.at.overflow_sub-result c).Else-not-word-candidate).some
 
 pub overflow_add-result : goal.overflow_add-result
-overflow_add-result c = (fits (goal.at.overflow_add-result c).Else-not-word-candidate).place (passes (goal.at.overflow_add-result c).Else-not-word-candidate).low
+overflow_add-result c = (fits (goal.at.overflow_add-result c).Else-not-word-candidate).place
+    (passes (goal.at.overflow_add-result c).Else-not-word-candidate).low
 
 pub overflow_add-result-2 : goal.overflow_add-result-2
 overflow_add-result-2 c = (fits (goal.at.overflow_add-result-2 c).Else-not-word-candidate).linked

@@ -1,4 +1,5 @@
 -- `hear::refusal_of` meets its contract: the tests on the way to each `return` are those of `refused_by`.
+use native.Mathlib.Omega.{arith}
 use borrow.Author.Tests.{le-leb, lt-leb}
 use Rattle.hear.proofs.Answers.{Numbers, numbered, wrong_numbers, wrong_lengths, dear, cheap, next_fits, rows_fit}
 use Rattle.hear.proofs.refusal_of.Goals as goal
@@ -18,13 +19,13 @@ pub returns-then-cost-gt2147303427 : goal.returns-then-cost-gt2147303427
 returns-then-cost-gt2147303427 c =
     let a = c.args in
     dear a.p a.most a.sender a.destination a.number a.cost a.costs a.ways a.waiting c.if-not-p-most.false c.if-not-destination-most.false
-    (lt-leb _ _ c.if-cost-gt2147303427.true)
+    (lt-leb _ _ (omega arith))
 
 pub returns : goal.returns
 returns c =
     let a = c.args in
     cheap a.p a.most a.sender a.destination a.number a.cost a.costs a.ways a.waiting c.if-not-p-most.false c.if-not-destination-most.false
-    (le-leb _ _ c.if-cost-gt2147303427.false)
+    (le-leb _ _ (omega arith))
 
 -- the product of the lengths' test does not wrap
 good : (c : Else-not-p-most) → let a = c.args in Numbers a.p a.most a.sender a.destination a.number

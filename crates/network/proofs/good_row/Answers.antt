@@ -31,8 +31,11 @@ returns-then-link_in c =
 
 pub loop-w-preserved : goal.loop-w-preserved
 loop-w-preserved c =
-    let l = c.loop-w in
-    (omega arith, below_more _ l.w l.invariant.1 (sym (pair_told _ _ _ _ _ _ c.link_in-in-loop-w.ensures c.link_in-in-loop-w-2.ensures) ∙ not-false _ c.if-link_in.false))
+    let l = c.loop-w in (
+      omega arith,
+      below_more _ l.w l.invariant.1 (sym (pair_told _ _ _ _ _ _ c.link_in-in-loop-w.ensures c.link_in-in-loop-w-2.ensures)
+          ∙ not-false _ c.if-link_in.false),
+    )
 
 pub returns : goal.returns
 returns c =

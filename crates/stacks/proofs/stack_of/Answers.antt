@@ -18,7 +18,8 @@ total-requires c =
 pub returns-then-total-number : goal.returns-then-total-number
 returns-then-total-number c =
     let a = c.args in
-    too_large a.p a.h a.number a.out.now (sym c.good_size.ensures ∙ c.if-good_size.true) c.if-number-lt1.false (omega (arith, c.total.ensures, c.if-total-number.true))
+    too_large a.p a.h a.number a.out.now (sym c.good_size.ensures ∙ c.if-good_size.true) c.if-number-lt1.false
+    (omega (arith, c.total.ensures, c.if-total-number.true))
 
 pub height_of-high-requires : goal.height_of-high-requires
 height_of-high-requires c =

@@ -1,4 +1,5 @@
 -- `step::read_row` meets its contract: a law of proofs/Tells.antt for each return.
+use native.Mathlib.Omega.{arith}
 use Prim.Native.Nat.{◌+◌, ◌-◌, ◌*◌}
 use mathlib.Core.Path.{◌≡◌, refl, sym, ◌∙◌}
 use mathlib.Core.Bool.{true}
@@ -21,24 +22,30 @@ good c = sym c.good_numbers.ensures ∙ c.if-not-good_numbers.false
 fits-there : (c : Else-not-good_numbers) → let a = c.args in Reads a.n a.stacks a.sender a.destination a.number (length a.cost.now) (length a.waiting.now)
 fits-there c =
     let a = c.args in
-    reads a.n a.p a.stacks (length a.cost.now) (length a.way.now) (length a.waiting.now) a.sender a.receiver a.destination a.number (sym c.good_sizes.ensures ∙ c.if-not-good_sizes.false) (sym c.good_numbers.ensures ∙ c.if-not-good_numbers.false)
+    reads a.n a.p a.stacks (length a.cost.now) (length a.way.now) (length a.waiting.now) a.sender a.receiver a.destination a.number
+    (sym c.good_sizes.ensures ∙ c.if-not-good_sizes.false) (sym c.good_numbers.ensures ∙ c.if-not-good_numbers.false)
 
 -- what the sender's part says of the row
-told_is : (c : After-read_cost-told) → c.read_cost-told.result ≡ get_or c.args.cost.now (let a = c.args in a.sender * (a.n * a.stacks) + (let a = c.args in a.destination * a.stacks + (a.number - 1))) 0
+told_is : (c : After-read_cost-told) → c.read_cost-told.result ≡ get_or c.args.cost.now (let a = c.args in a.sender * (a.n * a.stacks) + (let a = c.args in
+    a.destination * a.stacks + (a.number - 1))) 0
 told_is c =
     let a = c.args in
     let rows = a.n * a.stacks in
-    c.read_cost-told.ensures ∙ in_whole a.cost.now (a.sender * rows) (a.sender * rows + rows - a.sender * rows) (a.destination * a.stacks + (a.number - 1)) (reads a.n a.p a.stacks (length a.cost.now) (length a.way.now) (length a.waiting.now) a.sender a.receiver a.destination a.number (sym c.good_sizes.ensures ∙ c.if-not-good_sizes.false) (sym c.good_numbers.ensures ∙ c.if-not-good_numbers.false)).low
+    c.read_cost-told.ensures ∙ in_whole a.cost.now (a.sender * rows) (a.sender * rows + rows - a.sender * rows) (a.destination * a.stacks + (a.number - 1))
+    (reads a.n a.p a.stacks (length a.cost.now) (length a.way.now) (length a.waiting.now) a.sender a.receiver a.destination a.number
+    (sym c.good_sizes.ensures ∙ c.if-not-good_sizes.false) (sym c.good_numbers.ensures ∙ c.if-not-good_numbers.false)).low
 
 pub returns-then-not-good_sizes : goal.returns-then-not-good_sizes
 returns-then-not-good_sizes c =
     let a = c.args in
-    bad_sizes a.n a.p a.stacks a.link (table_of a.cost.now a.way.now a.waiting.now) a.sender a.receiver a.destination a.number (sym c.good_sizes.ensures ∙ c.if-not-good_sizes.true)
+    bad_sizes a.n a.p a.stacks a.link (table_of a.cost.now a.way.now a.waiting.now) a.sender a.receiver a.destination a.number (sym c.good_sizes.ensures
+    ∙ c.if-not-good_sizes.true)
 
 pub returns-then-not-good_numbers : goal.returns-then-not-good_numbers
 returns-then-not-good_numbers c =
     let a = c.args in
-    bad_numbers a.n a.p a.stacks a.link (table_of a.cost.now a.way.now a.waiting.now) a.sender a.receiver a.destination a.number (fit (goal.at.returns-then-not-good_numbers c).Else-not-good_sizes) (sym c.good_numbers.ensures ∙ c.if-not-good_numbers.true)
+    bad_numbers a.n a.p a.stacks a.link (table_of a.cost.now a.way.now a.waiting.now) a.sender a.receiver a.destination a.number
+    (fit (goal.at.returns-then-not-good_numbers c).Else-not-good_sizes) (sym c.good_numbers.ensures ∙ c.if-not-good_numbers.true)
 
 pub overflow_mul-rows_each : goal.overflow_mul-rows_each
 overflow_mul-rows_each c = (fits-there (goal.at.overflow_mul-rows_each c).Else-not-good_numbers).rows
@@ -70,7 +77,9 @@ bounds-waiting-place c = (fits-there (goal.at.bounds-waiting-place c).Else-not-g
 pub returns-then-not-has : goal.returns-then-not-has
 returns-then-not-has c =
     let a = c.args in
-    not_waiting a.n a.p a.stacks a.link (table_of a.cost.now a.way.now a.waiting.now) a.sender a.receiver a.destination a.number (fit (goal.at.returns-then-not-has c).Else-not-good_sizes) (good (goal.at.returns-then-not-has c).Else-not-good_numbers) (a.sender * (a.n * a.stacks) + (a.destination * a.stacks + (a.number - 1))) refl (sym c.has.ensures ∙ c.if-not-has.true)
+    not_waiting a.n a.p a.stacks a.link (table_of a.cost.now a.way.now a.waiting.now) a.sender a.receiver a.destination a.number
+    (fit (goal.at.returns-then-not-has c).Else-not-good_sizes) (good (goal.at.returns-then-not-has c).Else-not-good_numbers)
+    (a.sender * (a.n * a.stacks) + (a.destination * a.stacks + (a.number - 1))) refl (sym c.has.ensures ∙ c.if-not-has.true)
 
 pub offset_bounds-cost-start : goal.offset_bounds-cost-start
 offset_bounds-cost-start c = (fits-there (goal.at.offset_bounds-cost-start c).Else-not-good_numbers).start_bytes
@@ -88,20 +97,30 @@ pub read_cost-told-requires : goal.read_cost-told-requires
 read_cost-told-requires c = let f = fits-there (goal.at.read_cost-told-requires c).Else-not-good_numbers in in_part _ _ _ _ f.ends f.low
 
 -- the bit is set, of a place that lies behind the tests
-waits : (c : Else-not-has) → has (get_or c.args.waiting.now (let a = c.args in a.sender * (a.n * a.stacks) + (let a = c.args in a.destination * a.stacks + (a.number - 1))) 0) c.args.receiver ≡ true
+waits : (c : Else-not-has) → has (get_or c.args.waiting.now (let a = c.args in a.sender * (a.n * a.stacks) + (let a = c.args in a.destination * a.stacks
+    + (a.number - 1))) 0) c.args.receiver ≡ true
 waits c = sym c.has.ensures ∙ c.if-not-has.false
 
 pub returns-then-told-gt2147303427 : goal.returns-then-told-gt2147303427
 returns-then-told-gt2147303427 c =
     let a = c.args in
-    too_dear a.n a.p a.stacks a.link (table_of a.cost.now a.way.now a.waiting.now) a.sender a.receiver a.destination a.number (fit (goal.at.returns-then-told-gt2147303427 c).Else-not-good_sizes) (good (goal.at.returns-then-told-gt2147303427 c).Else-not-good_numbers) (a.sender * (a.n * a.stacks) + (a.destination * a.stacks + (a.number - 1))) refl (waits (goal.at.returns-then-told-gt2147303427 c).Else-not-has) c.read_cost-told.result (told_is (goal.at.returns-then-told-gt2147303427 c).After-read_cost-told) c.if-told-gt2147303427.true
+    too_dear a.n a.p a.stacks a.link (table_of a.cost.now a.way.now a.waiting.now) a.sender a.receiver a.destination a.number
+    (fit (goal.at.returns-then-told-gt2147303427 c).Else-not-good_sizes) (good (goal.at.returns-then-told-gt2147303427 c).Else-not-good_numbers)
+    (a.sender * (a.n * a.stacks) + (a.destination * a.stacks + (a.number - 1))) refl (waits (goal.at.returns-then-told-gt2147303427 c).Else-not-has)
+    c.read_cost-told.result (told_is (goal.at.returns-then-told-gt2147303427 c).After-read_cost-told) (omega arith)
 
 pub returns-then-link-eq0 : goal.returns-then-link-eq0
 returns-then-link-eq0 c =
     let a = c.args in
-    no_link a.n a.p a.stacks a.link (table_of a.cost.now a.way.now a.waiting.now) a.sender a.receiver a.destination a.number (fit (goal.at.returns-then-link-eq0 c).Else-not-good_sizes) (good (goal.at.returns-then-link-eq0 c).Else-not-good_numbers) (a.sender * (a.n * a.stacks) + (a.destination * a.stacks + (a.number - 1))) refl (waits (goal.at.returns-then-link-eq0 c).Else-not-has) c.read_cost-told.result (told_is (goal.at.returns-then-link-eq0 c).After-read_cost-told) c.if-told-gt2147303427.false c.if-link-eq0.true
+    no_link a.n a.p a.stacks a.link (table_of a.cost.now a.way.now a.waiting.now) a.sender a.receiver a.destination a.number
+    (fit (goal.at.returns-then-link-eq0 c).Else-not-good_sizes) (good (goal.at.returns-then-link-eq0 c).Else-not-good_numbers)
+    (a.sender * (a.n * a.stacks) + (a.destination * a.stacks + (a.number - 1))) refl (waits (goal.at.returns-then-link-eq0 c).Else-not-has)
+    c.read_cost-told.result (told_is (goal.at.returns-then-link-eq0 c).After-read_cost-told) (omega arith) c.if-link-eq0.true
 
 pub returns : goal.returns
 returns c =
     let a = c.args in
-    tells a.n a.p a.stacks a.link (table_of a.cost.now a.way.now a.waiting.now) a.sender a.receiver a.destination a.number (fit (goal.at.returns c).Else-not-good_sizes) (good (goal.at.returns c).Else-not-good_numbers) (a.sender * (a.n * a.stacks) + (a.destination * a.stacks + (a.number - 1))) refl (waits (goal.at.returns c).Else-not-has) c.read_cost-told.result (told_is (goal.at.returns c).After-read_cost-told) c.if-told-gt2147303427.false c.if-link-eq0.false
+    tells a.n a.p a.stacks a.link (table_of a.cost.now a.way.now a.waiting.now) a.sender a.receiver a.destination a.number
+    (fit (goal.at.returns c).Else-not-good_sizes) (good (goal.at.returns c).Else-not-good_numbers)
+    (a.sender * (a.n * a.stacks) + (a.destination * a.stacks + (a.number - 1))) refl (waits (goal.at.returns c).Else-not-has) c.read_cost-told.result
+    (told_is (goal.at.returns c).After-read_cost-told) (omega arith) c.if-link-eq0.false

@@ -13,25 +13,31 @@ use Rattle.step.proofs.step.Goals.{In-Row}
 
 -- where the tests hold: what they said, and that the sums fit
 pass : (c : In-Row) → let a = c.args in
-    Passed a.n a.p a.stacks a.link (let a = c.args in table_of a.cost.now a.way.now a.waiting.now) a.sender a.receiver a.destination a.number c.in-Row.place c.in-Row.told
+    Passed a.n a.p a.stacks a.link (let a = c.args in table_of a.cost.now a.way.now a.waiting.now) a.sender a.receiver a.destination a.number c.in-Row.place
+    c.in-Row.told
 pass c =
     let a = c.args in
-    passed a.n a.p a.stacks a.link (let a = c.args in table_of a.cost.now a.way.now a.waiting.now) a.sender a.receiver a.destination a.number c.in-Row.place c.in-Row.told (sym c.in-Row.ensures)
+    passed a.n a.p a.stacks a.link (let a = c.args in table_of a.cost.now a.way.now a.waiting.now) a.sender a.receiver a.destination a.number c.in-Row.place
+    c.in-Row.told (sym c.in-Row.ensures)
 
 pub returns-in-Row : goal.returns-in-Row
 returns-in-Row c =
     let a = c.args in
     let h = c.hear in
     let from = a.receiver * (a.n * a.stacks) in
-    delivers a.n (gateway_of a.p a.stacks a.neighbours a.convert a.wrap a.unwrap) a.link (table_of a.cost.now a.way.now a.waiting.now) a.sender a.receiver a.destination a.number c.in-Row.place c.in-Row.told (pass (goal.at.returns-in-Row c).In-Row)
-    from (from + a.n * a.stacks - from) c.without.result refl (length_of from (a.n * a.stacks)) c.without.ensures h.result (hearing.rows_of h.new.costs h.new.ways h.new.waiting) h.ensures
+    delivers a.n (gateway_of a.p a.stacks a.neighbours a.convert a.wrap a.unwrap) a.link (table_of a.cost.now a.way.now a.waiting.now) a.sender a.receiver
+    a.destination a.number c.in-Row.place c.in-Row.told (pass (goal.at.returns-in-Row c).In-Row)
+    from (from + a.n * a.stacks - from) c.without.result refl (length_of from (a.n * a.stacks)) c.without.ensures h.result
+    (hearing.rows_of h.new.costs h.new.ways h.new.waiting) h.ensures
     c.as_delivered.result c.as_delivered.ensures
 
 lent : (c : In-Row) → let a = c.args in
     Lends a.n a.stacks a.receiver c.in-Row.place (length a.cost.now) (length a.way.now) (length a.waiting.now)
 lent c =
     let a = c.args in
-    lends a.n a.p a.stacks a.link (let a = c.args in table_of a.cost.now a.way.now a.waiting.now) a.sender a.receiver a.destination a.number c.in-Row.place c.in-Row.told (let a = c.args in passed a.n a.p a.stacks a.link (let a = c.args in table_of a.cost.now a.way.now a.waiting.now) a.sender a.receiver a.destination a.number c.in-Row.place c.in-Row.told (sym c.in-Row.ensures))
+    lends a.n a.p a.stacks a.link (let a = c.args in table_of a.cost.now a.way.now a.waiting.now) a.sender a.receiver a.destination a.number c.in-Row.place
+    c.in-Row.told (let a = c.args in passed a.n a.p a.stacks a.link (let a = c.args in table_of a.cost.now a.way.now a.waiting.now) a.sender a.receiver
+    a.destination a.number c.in-Row.place c.in-Row.told (sym c.in-Row.ensures))
 
 pub offset_bounds-waiting-place : goal.offset_bounds-waiting-place
 offset_bounds-waiting-place c = (lent (goal.at.offset_bounds-waiting-place c).In-Row).place_bytes
@@ -93,4 +99,5 @@ slice_bounds-hear-end-in-Row-2 c = (lent (goal.at.slice_bounds-hear-end-in-Row-2
 pub returns-in-Refused : goal.returns-in-Refused
 returns-in-Refused c =
     let a = c.args in
-    refuses a.n (gateway_of a.p a.stacks a.neighbours a.convert a.wrap a.unwrap) a.link (table_of a.cost.now a.way.now a.waiting.now) a.sender a.receiver a.destination a.number c.in-Refused.refusal (sym c.in-Refused.ensures)
+    refuses a.n (gateway_of a.p a.stacks a.neighbours a.convert a.wrap a.unwrap) a.link (table_of a.cost.now a.way.now a.waiting.now) a.sender a.receiver
+    a.destination a.number c.in-Refused.refusal (sym c.in-Refused.ensures)

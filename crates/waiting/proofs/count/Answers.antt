@@ -11,12 +11,16 @@ use Rattle.waiting.proofs.count.Goals as goal
 pub returns-in-Stacks : goal.returns-in-Stacks
 returns-in-Stacks c =
     let a = c.args in
-    let r = is_ready (network_of a.n a.p a.h a.links.now a.functions.now) (table_of a.cost.now a.way.now a.waiting.now) c.in-Stacks.field-0 (sym c.in-Stacks.ensures) in
-    ap Counted.Messages (c.ones_in.ensures ∙ count_few a.waiting.now (omega (arith, rows_few (network_of a.n a.p a.h a.links.now a.functions.now) (table_of a.cost.now a.way.now a.waiting.now) c.in-Stacks.field-0 r)))
+    let r = is_ready (network_of a.n a.p a.h a.links.now a.functions.now) (table_of a.cost.now a.way.now a.waiting.now) c.in-Stacks.field-0
+    (sym c.in-Stacks.ensures) in
+    ap Counted.Messages (c.ones_in.ensures ∙ count_few a.waiting.now
+    (omega (arith, rows_few (network_of a.n a.p a.h a.links.now a.functions.now) (table_of a.cost.now a.way.now a.waiting.now) c.in-Stacks.field-0 r)))
     ∙ sym (begun (network_of a.n a.p a.h a.links.now a.functions.now) (table_of a.cost.now a.way.now a.waiting.now) c.in-Stacks.field-0 r _ _)
 
 pub returns-in-Refused : goal.returns-in-Refused
 returns-in-Refused c =
     let a = c.args in
-    let h = is_refused (network_of a.n a.p a.h a.links.now a.functions.now) (table_of a.cost.now a.way.now a.waiting.now) c.in-Refused.refusal (sym c.in-Refused.ensures) in
-    sym (stopped (network_of a.n a.p a.h a.links.now a.functions.now) (table_of a.cost.now a.way.now a.waiting.now) c.in-Refused.refusal h _ _ ∙ ap Counted.Refused h.0)
+    let h = is_refused (network_of a.n a.p a.h a.links.now a.functions.now) (table_of a.cost.now a.way.now a.waiting.now) c.in-Refused.refusal
+    (sym c.in-Refused.ensures) in
+    sym (stopped (network_of a.n a.p a.h a.links.now a.functions.now) (table_of a.cost.now a.way.now a.waiting.now) c.in-Refused.refusal h _ _
+    ∙ ap Counted.Refused h.0)

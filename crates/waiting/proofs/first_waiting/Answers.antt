@@ -35,7 +35,12 @@ pub nonzero_rem-result-in-Stacks : goal.nonzero_rem-result-in-Stacks
 nonzero_rem-result-in-Stacks c = (divides _ _ _ (prepared (goal.at.nonzero_rem-result-in-Stacks c).In-Stacks)).some
 
 pub overflow_add-result : goal.overflow_add-result
-overflow_add-result c = omega (arith, mod-lt c.in-At.at (divides _ _ _ (prepared (goal.at.overflow_add-result c).In-Stacks)).some, divides _ _ _ (prepared (goal.at.overflow_add-result c).In-Stacks))
+overflow_add-result c = omega (
+  arith,
+  mod-lt c.in-At.at (divides _ _ _ (prepared (goal.at.overflow_add-result c).In-Stacks)).some,
+  divides _ _ _
+      (prepared (goal.at.overflow_add-result c).In-Stacks),
+)
 
 pub returns-in-At : goal.returns-in-At
 returns-in-At c = first_message _ _ _ (prepared (goal.at.returns-in-At c).In-Stacks) c.in-At.at c.in-At.bit (sym c.in-At.ensures)

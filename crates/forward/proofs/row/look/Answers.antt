@@ -20,7 +20,8 @@ fits c = let a = c.args in room a.n a.stacks a.node a.destination a.number (well
 pub returns-then-not-good_place : goal.returns-then-not-good_place
 returns-then-not-good_place c =
     let a = c.args in
-    misplaced (net (goal.at.returns-then-not-good_place c).Start) a.stacks a.cost.now a.way.now a.node a.destination a.number c.good_place.ensures c.if-not-good_place.true
+    misplaced (net (goal.at.returns-then-not-good_place c).Start) a.stacks a.cost.now a.way.now a.node a.destination a.number c.good_place.ensures
+    c.if-not-good_place.true
 
 pub is_home-requires : goal.is_home-requires
 is_home-requires c = (fits (goal.at.is_home-requires c).Else-not-good_place).some
@@ -28,7 +29,8 @@ is_home-requires c = (fits (goal.at.is_home-requires c).Else-not-good_place).som
 pub returns-then-is_home : goal.returns-then-is_home
 returns-then-is_home c =
     let a = c.args in
-    delivered_here (net (goal.at.returns-then-is_home c).Start) a.stacks a.cost.now a.way.now a.node a.destination a.number (well-placed (goal.at.returns-then-is_home c).Else-not-good_place)
+    delivered_here (net (goal.at.returns-then-is_home c).Start) a.stacks a.cost.now a.way.now a.node a.destination a.number
+    (well-placed (goal.at.returns-then-is_home c).Else-not-good_place)
     (c.is_home.ensures a.h a.links.now) c.if-is_home.true
 
 pub overflow_mul-at : goal.overflow_mul-at
@@ -49,11 +51,13 @@ overflow_add-at-2 c = omega (arith, fits (goal.at.overflow_add-at-2 c).Else-not-
 pub returns-then-cost-at : goal.returns-then-cost-at
 returns-then-cost-at c =
     let a = c.args in
-    row_past (net (goal.at.returns-then-cost-at c).Start) a.stacks a.cost.now a.way.now a.node a.destination a.number (well-placed (goal.at.returns-then-cost-at c).Else-not-good_place)
+    row_past (net (goal.at.returns-then-cost-at c).Start) a.stacks a.cost.now a.way.now a.node a.destination a.number
+    (well-placed (goal.at.returns-then-cost-at c).Else-not-good_place)
     (c.is_home.ensures a.h a.links.now) c.if-is_home.false c.if-cost-at.true
 
 pub returns : goal.returns
 returns c =
     let a = c.args in
-    row_answered (net (goal.at.returns c).Start) a.stacks a.cost.now a.way.now a.node a.destination a.number (well-placed (goal.at.returns c).Else-not-good_place)
+    row_answered (net (goal.at.returns c).Start) a.stacks a.cost.now a.way.now a.node a.destination a.number
+    (well-placed (goal.at.returns c).Else-not-good_place)
     (c.is_home.ensures a.h a.links.now) c.if-is_home.false c.entry-named.ensures c.row_answer.ensures

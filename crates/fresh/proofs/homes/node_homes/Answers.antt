@@ -38,7 +38,8 @@ loop-x-init c =
 
 -- the row that is set is one of the table's
 row : (c : Then-accepts) → let s = c.before.before.before.before.before.before.before.before.before.before in
-    ((s.args.node * s.args.n + s.args.node) * s.args.stacks + c.loop-x.x < s.args.n * (s.args.n * s.args.stacks)) × (s.args.n * (s.args.n * s.args.stacks) ≤ 524288)
+    ((s.args.node * s.args.n + s.args.node) * s.args.stacks + c.loop-x.x < s.args.n * (s.args.n * s.args.stacks))
+    × (s.args.n * (s.args.n * s.args.stacks) ≤ 524288)
 row c =
     let s = c.before.before.before.before.before.before.before.before.before.before in (
       place_low s.args.n s.args.p s.args.stacks s.requires.0 s.args.node c.loop-x.x s.requires.1 c.loop-x-test.true,
@@ -86,20 +87,26 @@ loop-x-preserved c =
     elim c.if-accepts.branch [
       | then-accepts w ↦ (
         omega arith,
-        w.cost-is ∙ turn_set c.args.n c.args.p c.args.stacks c.requires.0 c.args.functions.now (λ i. 0) no_row c.args.node c.requires.1 l.cost l.x 0 low (answer ∙ w.if-accepts.true) refl l.invariant.1,
+        w.cost-is ∙ turn_set c.args.n c.args.p c.args.stacks c.requires.0 c.args.functions.now (λ i. 0) no_row c.args.node c.requires.1 l.cost l.x 0 low
+            (answer ∙ w.if-accepts.true) refl l.invariant.1,
         w.waiting-is
-            ∙ turn_set c.args.n c.args.p c.args.stacks c.requires.0 c.args.functions.now (λ i. neighbours_at c.args.n c.args.links.now (i / c.args.stacks / c.args.n)) 0 c.args.node c.requires.1 l.waiting l.x word.result low (answer ∙ w.if-accepts.true)
-            (word.ensures ∙ ap (neighbours_at c.args.n c.args.links.now) (sym (place_node c.args.n c.args.p c.args.stacks c.requires.0 c.args.node l.x c.requires.1 low)))
+            ∙ turn_set c.args.n c.args.p c.args.stacks c.requires.0 c.args.functions.now (λ i. neighbours_at c.args.n c.args.links.now
+            (i / c.args.stacks / c.args.n)) 0 c.args.node c.requires.1 l.waiting l.x word.result low (answer ∙ w.if-accepts.true)
+            (word.ensures ∙ ap (neighbours_at c.args.n c.args.links.now)
+            (sym (place_node c.args.n c.args.p c.args.stacks c.requires.0 c.args.node l.x c.requires.1 low)))
             l.invariant.2,
         w.messages-is
-            ∙ messages_more c.args.n c.args.p c.args.stacks c.requires.0 c.args.functions.now _ c.args.node l.x c.requires.1 low l.waiting l.invariant.2 l.messages ones.result word.result ones.ensures l.invariant.3
+            ∙ messages_more c.args.n c.args.p c.args.stacks c.requires.0 c.args.functions.now _ c.args.node l.x c.requires.1 low l.waiting l.invariant.2
+            l.messages ones.result word.result ones.ensures l.invariant.3
             ∙ ap ones_in (sym w.waiting-is),
       )
       | else-accepts w ↦ (
         omega arith,
-        w.cost-is ∙ turn_skip c.args.n c.args.p c.args.stacks c.requires.0 c.args.functions.now (λ i. 0) no_row c.args.node c.requires.1 l.cost l.x low (answer ∙ w.if-accepts.false) l.invariant.1,
+        w.cost-is ∙ turn_skip c.args.n c.args.p c.args.stacks c.requires.0 c.args.functions.now (λ i. 0) no_row c.args.node c.requires.1 l.cost l.x low
+            (answer ∙ w.if-accepts.false) l.invariant.1,
         w.waiting-is
-            ∙ turn_skip c.args.n c.args.p c.args.stacks c.requires.0 c.args.functions.now (λ i. neighbours_at c.args.n c.args.links.now (i / c.args.stacks / c.args.n)) 0 c.args.node c.requires.1 l.waiting l.x low (answer ∙ w.if-accepts.false)
+            ∙ turn_skip c.args.n c.args.p c.args.stacks c.requires.0 c.args.functions.now (λ i. neighbours_at c.args.n c.args.links.now
+            (i / c.args.stacks / c.args.n)) 0 c.args.node c.requires.1 l.waiting l.x low (answer ∙ w.if-accepts.false)
             l.invariant.2,
         w.messages-is ∙ l.invariant.3 ∙ ap ones_in (sym w.waiting-is),
       )

@@ -16,7 +16,8 @@ returns-then-header-long c =
 pub returns-then-e-s : goal.returns-then-e-s
 returns-then-e-s c =
     let a = c.args in
-    ap (answered a.packet.now a.s) (too_long a.packet.now a.s a.e c.header_length-header.ensures.0 c.packet_length-long.ensures.0 c.if-header-long.false (omega arith) c.if-e-s.true)
+    ap (answered a.packet.now a.s) (too_long a.packet.now a.s a.e c.header_length-header.ensures.0 c.packet_length-long.ensures.0 c.if-header-long.false
+    (omega arith) c.if-e-s.true)
 
 -- the lengths passed their tests
 fitting : (c : Else-e-s) → let a = c.args in Fits a.packet.now a.s a.e
@@ -28,7 +29,9 @@ pub returns-then-version_at-eq6 : goal.returns-then-version_at-eq6
 returns-then-version_at-eq6 c =
     let a = c.args in
     let v = c.version_at.ensures in
-    passes a.packet.now a.s (six_right a.packet.now a.s a.e (fitting (goal.at.returns-then-version_at-eq6 c).Else-e-s) v c.if-version_at-eq6.true) (protocol_is a.packet.now a.s (at_six a.packet.now a.s v c.if-version_at-eq6.true 1 0)) c.header_length-header.ensures.0 c.packet_length-long.ensures.0 c.announced_by-after.ensures
+    passes a.packet.now a.s (six_right a.packet.now a.s a.e (fitting (goal.at.returns-then-version_at-eq6 c).Else-e-s) v c.if-version_at-eq6.true)
+    (protocol_is a.packet.now a.s (at_six a.packet.now a.s v c.if-version_at-eq6.true 1 0)) c.header_length-header.ensures.0
+    c.packet_length-long.ensures.0 c.announced_by-after.ensures
 
 pub summed-requires : goal.summed-requires
 summed-requires c =
@@ -41,17 +44,21 @@ returns-then-pair_at-eq0 c =
     let a = c.args in
     let v = c.version_at.ensures in
     passes a.packet.now a.s
-    (right a.packet.now a.s a.e (fitting (goal.at.returns-then-pair_at-eq0 c).Else-e-s) v c.if-version_at-eq6.false c.header_length-header.ensures.0 c.summed.ensures c.if-summed-eq65535.true c.pair_at.ensures.0 c.if-pair_at-eq0.true)
-    (protocol_is a.packet.now a.s (at_other a.packet.now a.s v c.if-version_at-eq6.false 1 0)) c.header_length-header.ensures.0 c.packet_length-long.ensures.0 c.announced_by-after.ensures
+    (right a.packet.now a.s a.e (fitting (goal.at.returns-then-pair_at-eq0 c).Else-e-s) v c.if-version_at-eq6.false c.header_length-header.ensures.0
+    c.summed.ensures c.if-summed-eq65535.true c.pair_at.ensures.0 c.if-pair_at-eq0.true)
+    (protocol_is a.packet.now a.s (at_other a.packet.now a.s v c.if-version_at-eq6.false 1 0)) c.header_length-header.ensures.0
+    c.packet_length-long.ensures.0 c.announced_by-after.ensures
 
 pub returns-then-summed-eq65535 : goal.returns-then-summed-eq65535
 returns-then-summed-eq65535 c =
     let a = c.args in
     ap (answered a.packet.now a.s)
-    (fragment a.packet.now a.s a.e (fitting (goal.at.returns-then-summed-eq65535 c).Else-e-s) c.version_at.ensures c.if-version_at-eq6.false c.header_length-header.ensures.0 c.summed.ensures c.if-summed-eq65535.true c.pair_at.ensures.0
+    (fragment a.packet.now a.s a.e (fitting (goal.at.returns-then-summed-eq65535 c).Else-e-s) c.version_at.ensures c.if-version_at-eq6.false
+    c.header_length-header.ensures.0 c.summed.ensures c.if-summed-eq65535.true c.pair_at.ensures.0
     c.if-pair_at-eq0.false)
 
 pub returns : goal.returns
 returns c =
     let a = c.args in
-    ap (answered a.packet.now a.s) (bad_checksum a.packet.now a.s a.e (fitting (goal.at.returns c).Else-e-s) c.version_at.ensures c.if-version_at-eq6.false c.header_length-header.ensures.0 c.summed.ensures c.if-summed-eq65535.false)
+    ap (answered a.packet.now a.s) (bad_checksum a.packet.now a.s a.e (fitting (goal.at.returns c).Else-e-s) c.version_at.ensures c.if-version_at-eq6.false
+    c.header_length-header.ensures.0 c.summed.ensures c.if-summed-eq65535.false)

@@ -32,7 +32,7 @@ returns-then-k-h c =
     let l = c.loop-refusal in
     let v = c.in-Right in
     too_high a.packet.now a.h l.announced l.k l.s l.e l.number l.weight l.invariant v.protocol v.from v.to v.after (sym v.is ∙ c.header_at.ensures)
-    c.if-k-h.true
+    (omega (arith, c.loop-refusal.invariant.counted))
 
 pub overflow_add-number : goal.overflow_add-number
 overflow_add-number c = omega (arith, small (goal.at.overflow_add-number c).Else-k-h)
@@ -49,7 +49,7 @@ returns-then-after-eq0 c =
     let l = c.loop-refusal in
     let v = c.in-Right in
     ends a.packet.now a.h l.announced l.k l.s l.e l.number l.weight l.invariant v.protocol v.from v.to v.after (sym v.is ∙ c.header_at.ensures)
-    c.if-k-h.false c.if-after-eq0.true
+    (λ z. omega arith) c.if-after-eq0.true
 
 pub overflow_mul-weight : goal.overflow_mul-weight
 overflow_mul-weight c =
@@ -71,4 +71,4 @@ loop-refusal-preserved c =
     let l = c.loop-refusal in
     let v = c.in-Right in
     goes_on a.packet.now a.h l.announced l.k l.s l.e l.number l.weight l.invariant v.protocol v.from v.to v.after (sym v.is ∙ c.header_at.ensures)
-    c.if-k-h.false c.if-after-eq0.false
+    (λ z. omega arith) c.if-after-eq0.false

@@ -24,14 +24,16 @@ search_node-requires c =
 
 pub returns-in-At : goal.returns-in-At
 returns-in-At c = record {
-  value = part_found _ (c.loop-node.node * (c.args.n * c.args.stacks)) ((c.loop-node.node * (c.args.n * c.args.stacks)) + c.args.n * c.args.stacks) c.loop-node.invariant.1 (inside (goal.at.returns-in-At c).In-loop-node) _ _ _ c.search_node.ensures.value c.in-At.is;
+  value = part_found _ (c.loop-node.node * (c.args.n * c.args.stacks)) ((c.loop-node.node * (c.args.n * c.args.stacks)) + c.args.n * c.args.stacks)
+      c.loop-node.invariant.1 (inside (goal.at.returns-in-At c).In-loop-node) _ _ _ c.search_node.ensures.value c.in-At.is;
   flagged = c.search_node.ensures.flagged;
 }
 
 pub loop-node-preserved : goal.loop-node-preserved
 loop-node-preserved c =
     let found = c.search_node.ensures.value in
-    let behind = part_passed _ (c.loop-node.node * (c.args.n * c.args.stacks)) ((c.loop-node.node * (c.args.n * c.args.stacks)) + c.args.n * c.args.stacks) c.loop-node.invariant.1 (inside (goal.at.loop-node-preserved c).In-loop-node) _ found c.in-Nowhere.is (omega arith) in
+    let behind = part_passed _ (c.loop-node.node * (c.args.n * c.args.stacks)) ((c.loop-node.node * (c.args.n * c.args.stacks)) + c.args.n * c.args.stacks)
+    c.loop-node.invariant.1 (inside (goal.at.loop-node-preserved c).In-loop-node) _ found c.in-Nowhere.is (omega arith) in
     (search rules, node_passed _ _ c.loop-node.node _ (omega arith) (omega arith) behind, c.search_node.ensures.flagged)
 
 pub returns : goal.returns

@@ -30,10 +30,18 @@ pub loop-left-init : goal.loop-left-init
 loop-left-init c = (refl, c.requires.3)
 
 pub overflow_mul-from : goal.overflow_mul-from
-overflow_mul-from c = omega (arith, few_blocks _ _ _ c.requires.3.fits c.requires.0 (destination_below (at_flag (goal.at.overflow_mul-from c).After-lowest-destination)))
+overflow_mul-from c = omega (
+  arith,
+  few_blocks _ _ _ c.requires.3.fits c.requires.0
+      (destination_below (at_flag (goal.at.overflow_mul-from c).After-lowest-destination)),
+)
 
 pub overflow_add-from : goal.overflow_add-from
-overflow_add-from c = omega (arith, few_blocks _ _ _ c.requires.3.fits c.requires.0 (destination_below (at_flag (goal.at.overflow_add-from c).After-lowest-destination)))
+overflow_add-from c = omega (
+  arith,
+  few_blocks _ _ _ c.requires.3.fits c.requires.0
+      (destination_below (at_flag (goal.at.overflow_add-from c).After-lowest-destination)),
+)
 
 pub overflow_mul-from-in-loop-left : goal.overflow_mul-from-in-loop-left
 overflow_mul-from-in-loop-left c = omega (arith, block_inside (at_flag (goal.at.overflow_mul-from-in-loop-left c).After-lowest-destination))
@@ -54,7 +62,13 @@ cleared : (c : After-without-left)
 cleared c = c.without-left.ensures ∙ ap (λ (w : ℕ). without w c.lowest-destination.result) c.loop-left.invariant.0
 
 pub loop-left-smaller : goal.loop-left-smaller
-loop-left-smaller c = omega (arith, cleared (goal.at.loop-left-smaller c).After-without-left, c.loop-left.invariant.0, flag_falls (at_flag (goal.at.loop-left-smaller c).After-lowest-destination))
+loop-left-smaller c = omega (
+  arith,
+  cleared (goal.at.loop-left-smaller c).After-without-left,
+  c.loop-left.invariant.0,
+  flag_falls
+      (at_flag (goal.at.loop-left-smaller c).After-lowest-destination),
+)
 
 pub loop-left-preserved : goal.loop-left-preserved
 loop-left-preserved c =

@@ -66,11 +66,13 @@ returns-in-At c h functions w own =
     let a = c.args in
     let x = c.step-answer in
     let at = c.in-At.at in
-    turned_step (network_of a.n a.p h a.links.now functions) (table_of a.cost.now a.way.now a.waiting.now) at c.in-At.receiver (sym c.search_flagged.ensures.value ∙ c.in-At.is) c.search_flagged.new.flags
+    turned_step (network_of a.n a.p h a.links.now functions) (table_of a.cost.now a.way.now a.waiting.now) at c.in-At.receiver
+    (sym c.search_flagged.ensures.value ∙ c.in-At.is) c.search_flagged.new.flags
     a.neighbours.now a.converts.now a.wraps.now a.unwraps.now own x.result (table_of x.new.cost x.new.way x.new.waiting) c.turn_of.new.flags c.link_cost.result
     a.stacks c.turn_of.result c.turn_of.ensures.0 w c.search_flagged.ensures.flagged c.link_cost.ensures x.ensures c.turn_of.ensures.1
 
 pub returns-in-Nowhere : goal.returns-in-Nowhere
 returns-in-Nowhere c h functions w own =
     let a = c.args in
-    turned_quiet (network_of a.n a.p h a.links.now functions) a.stacks (table_of a.cost.now a.way.now a.waiting.now) c.search_flagged.new.flags c.search_flagged.ensures.flagged (sym c.search_flagged.ensures.value ∙ c.in-Nowhere.is)
+    turned_quiet (network_of a.n a.p h a.links.now functions) a.stacks (table_of a.cost.now a.way.now a.waiting.now) c.search_flagged.new.flags
+    c.search_flagged.ensures.flagged (sym c.search_flagged.ensures.value ∙ c.in-Nowhere.is)

@@ -6,7 +6,8 @@ pub returns-then-offers-eq0 : goal.returns-then-offers-eq0
 returns-then-offers-eq0 c = let a = c.args in none_took a.flags.now a.receiver a.destination a.answer c.in-Rows.offers c.in-Rows.is c.if-offers-eq0.true
 
 pub returns-else-offers-eq0 : goal.returns-else-offers-eq0
-returns-else-offers-eq0 c = let a = c.args in some_took a.flags.now a.receiver a.destination a.answer c.in-Rows.offers c.with_one.result c.in-Rows.is c.if-offers-eq0.false c.with_one.ensures
+returns-else-offers-eq0 c = let a = c.args in some_took a.flags.now a.receiver a.destination a.answer c.in-Rows.offers c.with_one.result c.in-Rows.is
+    c.if-offers-eq0.false c.with_one.ensures
 
 pub returns-in-Refused : goal.returns-in-Refused
 returns-in-Refused c = let a = c.args in not_made a.flags.now a.receiver a.destination a.answer c.in-Refused.refusal c.in-Refused.is
