@@ -37,14 +37,11 @@ loop-x-init c =
     )
 
 -- the row that is set is one of the table's
-row : (c : Then-accepts) → let s = c.before.before.before.before.before.before.before.before.before.before in
-    ((s.args.node * s.args.n + s.args.node) * s.args.stacks + c.loop-x.x < s.args.n * (s.args.n * s.args.stacks))
-    × (s.args.n * (s.args.n * s.args.stacks) ≤ 524288)
+row : (c : Then-accepts) → let a = c.args in
+    ((a.node * a.n + a.node) * a.stacks + c.loop-x.x < a.n * (a.n * a.stacks)) × (a.n * (a.n * a.stacks) ≤ 524288)
 row c =
-    let s = c.before.before.before.before.before.before.before.before.before.before in (
-      place_low s.args.n s.args.p s.args.stacks s.requires.0 s.args.node c.loop-x.x s.requires.1 c.loop-x-test.true,
-      rows_most s.args.n s.args.p s.args.stacks s.requires.0,
-    )
+    let a = c.args in
+    (place_low a.n a.p a.stacks c.requires.0 a.node c.loop-x.x c.requires.1 c.loop-x-test.true, rows_most a.n a.p a.stacks c.requires.0)
 
 pub overflow_add-cost : goal.overflow_add-cost
 overflow_add-cost c = omega (arith, row (goal.at.overflow_add-cost c).Then-accepts)
