@@ -11,7 +11,7 @@ use Rattle.stacks.proofs.Laws.{number_in_range, stack_in_range, number_of_stack}
 use Rattle.stacks.proofs.Numbers.{stack_of_only}
 use Rattle.functions.specs.Functions.{ok_function, apply, becomes, inverse}
 use Rattle.functions.specs.Answers.{answer, applied_of, moved_of}
-use Rattle.functions.specs.declared.After.TheVariants.{Number}
+use Rattle.std.specs.Prelude.{Ok, Some}
 use Rattle.functions.proofs.Tests.{function}
 use Rattle.functions.proofs.Moves as moves
 use Rattle.functions.proofs.Outcomes.{cond_moved, answer_number}
@@ -59,7 +59,7 @@ pub record Leads (p h f n m : ℕ) : Type 0 where
   pub to : ok_number p h m ≡ true
   pub makes : apply h f (stack_of p h n) ≡ becomes (stack_of p h m)
 
-pub leads : (p h f n m : ℕ) → applied_of p h f n ≡ Number m → Leads p h f n m
+pub leads : (p h f n m : ℕ) → applied_of p h f n ≡ Ok (Some m) → Leads p h f n m
 leads p h f n m e =
     let c = cond_moved (ok_size p h && (ok_number p h n && ok_function p f)) (answer p (apply h f (stack_of p h n))) m e in
     let z = both (ok_size p h) (ok_number p h n && ok_function p f) c.0 in
@@ -75,8 +75,8 @@ leads p h f n m e =
       makes = w.1 ∙ ap becomes (stack_of_only p h m w.0 ot w.2);
     }
 
-pub leading : (p h f n m : ℕ) → Leads p h f n m → applied_of p h f n ≡ Number m
-leading p h f n m l = simp (l.size, l.from, l.by, l.makes) (ap Number (number_of_stack p h l.size m l.to))
+pub leading : (p h f n m : ℕ) → Leads p h f n m → applied_of p h f n ≡ Ok (Some m)
+leading p h f n m l = simp (l.size, l.from, l.by, l.makes) (ap (λ (n : ℕ). Ok (Some n)) (number_of_stack p h l.size m l.to))
 
 -- at most one function leads from n to m
 pub leads_by_lem : (p h f g n m : ℕ) → Leads p h f n m → Leads p h g n m → f ≡ g

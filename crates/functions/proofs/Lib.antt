@@ -1,9 +1,9 @@
 -- The laws of crate functions, and what they rest on.
 pub mod Tests
-pub mod Returns
 pub mod Moves
 pub mod Outcomes
 pub mod Back
 pub mod Between
 pub mod Laws
 pub mod Examples
+pub mod Parts

@@ -11,27 +11,25 @@ use Rattle.lists.proofs.Tests.{both}
 use Rattle.stacks.specs.Stacks.{ok_size, ok_stack, ok_number, count, stack_of, below, number}
 use Rattle.functions.specs.Functions.{ok_function, Outcome, becomes, cannot, convert, wrap, unwrap, move, turned, apply}
 use Rattle.functions.specs.Answers.{answer, applied_of, move_number, moved_of, ok_move}
-use Rattle.functions.specs.declared.After.{After}
-use Rattle.functions.specs.declared.After.TheVariants.{Number, NotApplicable, Refused}
+use Rattle.std.specs.Prelude.{Result, Ok, Err, Option, Some, None}
+use Rattle.refusal.specs.declared.Refusal.{Refusal}
 use Rattle.stacks.proofs.Tests.{sizes, good, within}
 use Rattle.functions.proofs.Tests.{function}
 use Rattle.stacks.specs.Answers.{count_of}
-use Rattle.stacks.specs.declared.Answer.TheVariants.{Value}
-use Rattle.stacks.specs.declared.Answer.TheVariants as answers
 use Rattle.stacks.proofs.Count.{count_fits}
 use Rattle.stacks.proofs.Outcomes.{counted, uncounted}
 use Rattle.stacks.proofs.Numbers.{num, number_num, number_reverse, below_reverse, num_top, num_rest, num_leb, number_stack_of, stack_of_ok}
 
 -- the answer for an outcome that has its top first
-abbrev pub answer_top : ℕ → Outcome → After
-answer_top p (becomes r) = Number (num p r)
-answer_top p cannot = NotApplicable
+abbrev pub answer_top : ℕ → Outcome → Result (Option ℕ) Refusal
+answer_top p (becomes r) = Ok (Some (num p r))
+answer_top p cannot = (Ok None)
 
 pub answer_turned : (p : ℕ) (o : Outcome) → answer p (turned o) ≡ answer_top p o
-answer_turned p (becomes r) = ap Number (number_reverse p r)
+answer_turned p (becomes r) = ap (λ (n : ℕ). Ok (Some n)) (number_reverse p r)
 answer_turned p cannot = refl
 
-answer_cond : (p : ℕ) (b : Bool) (r : List ℕ) → answer_top p (cond b (becomes r) cannot) ≡ cond b (Number (num p r)) NotApplicable
+answer_cond : (p : ℕ) (b : Bool) (r : List ℕ) → answer_top p (cond b (becomes r) cannot) ≡ cond b (Ok (Some (num p r))) (Ok None)
 answer_cond p true r = refl
 answer_cond p false r = refl
 
@@ -91,19 +89,19 @@ pub moved_applied : (p h f n : ℕ) → ok_size p h ≡ true → moved_of p (cou
 moved_applied p h f n size = simp (ok_move_is p h f n size, size) (go (ok_number p h n) refl (ok_function p f) refl)
   where
     go : (a : Bool) → ok_number p h n ≡ a → (b : Bool) → ok_function p f ≡ b
-        → cond (a && b) (move_number p (count p h) (f / 64) (f / 8 % 8) (f % 8) n) (Refused 4) ≡ cond (a && b) (answer p (apply h f (stack_of p h n)))
-        (Refused 4)
+        → cond (a && b) (move_number p (count p h) (f / 64) (f / 8 % 8) (f % 8) n) (Err Refusal.Range) ≡ cond (a && b) (answer p (apply h f (stack_of p h n)))
+        (Err Refusal.Range)
     go true e true d = sym (apply_stack_of p h f n (sizes p h size).some (function p f d).to e)
     go true e false d = refl
     go false e b d = refl
 
 -- what `applied` answers, by what `stack_count` does
-pub applied_counted : (p h f n m : ℕ) → count_of p h ≡ Value m → moved_of p m f n ≡ applied_of p h f n
+pub applied_counted : (p h f n m : ℕ) → count_of p h ≡ Ok m → moved_of p m f n ≡ applied_of p h f n
 applied_counted p h f n m e =
     let c = counted p h m e in
     ap (λ (x : ℕ). moved_of p x f n) (sym c.1) ∙ moved_applied p h f n c.0
 
-pub applied_refused : (p h f n r : ℕ) → count_of p h ≡ answers.Refused r → Refused r ≡ applied_of p h f n
+pub applied_refused : (p h f n : ℕ) (r : Refusal) → count_of p h ≡ Err r → ◌≡◌ {A = Result (Option ℕ) Refusal} (Err r) (applied_of p h f n)
 applied_refused p h f n r e =
     let c = uncounted p h r e in
-    simp c.0 (ap Refused (sym c.1))
+    simp c.0 (ap Err (sym c.1))

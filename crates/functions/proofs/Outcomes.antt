@@ -7,8 +7,8 @@ use mathlib.Core.Bool.{Bool, true, false, cond}
 use Rattle.stacks.specs.Stacks.{number}
 use Rattle.functions.specs.Functions.{Outcome, becomes, cannot, turned}
 use Rattle.functions.specs.Answers.{answer}
-use Rattle.functions.specs.declared.After.{After}
-use Rattle.functions.specs.declared.After.TheVariants.{Number, Refused}
+use Rattle.std.specs.Prelude.{Result, Ok, Err, Option, Some}
+use Rattle.refusal.specs.declared.Refusal.{Refusal}
 
 pub cond_becomes : (c : Bool) (x t : List ℕ) → cond c (becomes x) cannot ≡ becomes t → (c ≡ true) × (x ≡ t)
 cond_becomes true x t e = (refl, (cc))
@@ -23,10 +23,10 @@ turned_becomes (becomes s) t e =
     ap becomes (sym (reverse-reverse s) ∙ ap reverse i)
 turned_becomes cannot t e = absurd (cannot_becomes t e)
 
-pub cond_moved : (c : Bool) (x : After) (m : ℕ) → cond c x (Refused 4) ≡ Number m → (c ≡ true) × (x ≡ Number m)
+pub cond_moved : (c : Bool) (x : Result (Option ℕ) Refusal) (m : ℕ) → cond c x (Err Refusal.Range) ≡ Ok (Some m) → (c ≡ true) × (x ≡ Ok (Some m))
 cond_moved true x m e = (refl, e)
 cond_moved false x m e = absurd (let z : ◌≡◌ {A = ℕ} 0 1 = cc in omega arith)
 
-pub answer_number : (p : ℕ) (o : Outcome) (m : ℕ) → answer p o ≡ Number m → (t : List ℕ) × (o ≡ becomes t) × (number p t ≡ m)
+pub answer_number : (p : ℕ) (o : Outcome) (m : ℕ) → answer p o ≡ Ok (Some m) → (t : List ℕ) × (o ≡ becomes t) × (number p t ≡ m)
 answer_number p (becomes t) m e = (t, refl, (cc))
 answer_number p cannot m e = absurd (let z : ◌≡◌ {A = ℕ} 0 1 = cc in omega arith)

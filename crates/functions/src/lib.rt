@@ -2,18 +2,37 @@
 // specs/Answers.antt.
 #![tactic(auto)]
 
-ghost use Rattle.std.specs.Prelude.{◌≡◌, ◌&&◌, ◌≤◌, ◌<◌, leb};
-ghost use Rattle.functions.specs.Functions.{ok_function, inverse};
+ghost use Rattle.std.specs.Prelude.{◌≡◌, ◌&&◌, ◌≤◌, ◌<◌, Ok, Err, cond, leb};
+ghost use Rattle.functions.specs.Functions.{kind_of, ok_function};
 ghost use Rattle.functions.specs.Answers.{applied_of, move_number, moved_of, inverse_of};
+ghost use Rattle.functions.specs.Parts.{kind_at, kind_number, function_of, inverse_by};
 
-use stacks::Answer;
+use refusal::Refusal;
 
-// What a function makes of the stack of a number: the number of the new stack, or that it is not applicable there, or the refusal's number.
-#[derive(Clone, Copy)]
-pub enum After {
-    Number(usize),
-    NotApplicable,
-    Refused(u32),
+/// The kinds of functions, by their numbers.
+#[derive(Clone, Copy, Debug, PartialEq, Eq, Drop)]
+pub enum Kind {
+    Convert = 0,
+    Wrap = 1,
+    Unwrap = 2,
+}
+
+/// A function by its parts: convert a to b, wrap a in b, or unwrap a from b.
+#[derive(Clone, Copy, Debug, PartialEq, Eq, Drop)]
+pub struct Function {
+    pub kind: Kind,
+    pub a: usize,
+    pub b: usize,
+}
+
+fn kind_of(f: usize) -> Kind
+    ensures { result ≡ kind_at (kind_of f) }
+{
+    match f / 64 {
+        0 => Kind::Convert,
+        1 => Kind::Wrap,
+        _ => Kind::Unwrap,
+    }
 }
 
 // Whether p is in range and f is a function on the protocols below p.
@@ -23,75 +42,85 @@ fn good_function(p: usize, f: usize) -> bool
     (p <= 8) & (f < 192) & (f / 8 % 8 < p) & (f % 8 < p)
 }
 
-// A function of a kind, from protocol a and to protocol b, on the stack of a number, where there are most stacks.
-fn moved_by(p: usize, most: usize, kind: usize, a: usize, b: usize, number: usize) -> After
-    requires { (1 ≤ p) × (p ≤ 8) × (b ≤ 7) × (1 ≤ number) × (number ≤ 78536544840) }
-    ensures { result ≡ move_number p most kind a b number }
+// The function of a number, on the protocols below p.
+fn function_on(p: usize, f: usize) -> Result<Function, Refusal>
+    ensures { result ≡ cond (leb 1 p && (leb p 8 && ok_function p f)) (Ok (function_of f)) (Err Refusal.Range) }
 {
-    let top = (number - 1) % p;
-    let rest = (number - 1) / p;
-    if kind == 0 {
-        if top == a {
-            return After::Number(p * rest + b + 1);
-        }
-        return After::NotApplicable;
+    if good_function(p, f) {
+        return Ok(Function {
+            kind: kind_of(f),
+            a: f / 8 % 8,
+            b: f % 8,
+        });
     }
-    if kind == 1 {
-        let up = p * number + b + 1;
-        if (top == a) & (up <= most) {
-            return After::Number(up);
+    Err(Refusal::Range)
+}
+
+impl Function {
+    // What the function makes of the stack of a number, where there are most stacks.
+    fn makes(self, p: usize, most: usize, number: usize) -> Option<usize>
+        requires { (1 ≤ p) × (p ≤ 8) × (self.b ≤ 7) × (1 ≤ number) × (number ≤ 78536544840) }
+        ensures { Ok result ≡ move_number p most (kind_number self.kind) self.a self.b number }
+    {
+        let top = (number - 1) % p;
+        let rest = (number - 1) / p;
+        match self.kind {
+            Kind::Convert => {
+                if top == self.a {
+                    return Some(p * rest + self.b + 1);
+                }
+            }
+            Kind::Wrap => {
+                let up = p * number + self.b + 1;
+                if (top == self.a) & (up <= most) {
+                    return Some(up);
+                }
+            }
+            Kind::Unwrap => {
+                if (top == self.b) & (0 < rest) {
+                    if (rest - 1) % p == self.a {
+                        return Some(rest);
+                    }
+                }
+            }
         }
-        return After::NotApplicable;
+        None
     }
-    if (top == b) & (0 < rest) {
-        if (rest - 1) % p == a {
-            return After::Number(rest);
+
+    // The number of the function that takes back what this one does.
+    fn inverse(self) -> usize
+        requires { (self.a ≤ 7) × (self.b ≤ 7) }
+        ensures { result ≡ inverse_by self }
+    {
+        match self.kind {
+            Kind::Convert => 8 * self.b + self.a,
+            Kind::Wrap => 128 + 8 * self.a + self.b,
+            Kind::Unwrap => 64 + 8 * self.a + self.b,
         }
     }
-    After::NotApplicable
 }
 
 // As applied, where most is S, for a caller that has worked it out: no loop.
-pub fn moved(p: usize, most: usize, f: usize, number: usize) -> After
+pub fn moved(p: usize, most: usize, f: usize, number: usize) -> Result<Option<usize>, Refusal>
     ensures { result ≡ moved_of p most f number }
 {
-    if good_function(p, f) {
-        if (most <= 78536544840) & (1 <= number) & (number <= most) {
-            return moved_by(p, most, f / 64, f / 8 % 8, f % 8, number);
-        }
+    let function = function_on(p, f)?;
+    if (most <= 78536544840) & (1 <= number) & (number <= most) {
+        return Ok(function.makes(p, most, number));
     }
-    After::Refused(4)
+    Err(Refusal::Range)
 }
 
-// The number of the stack that the function f makes of the stack of a number.
-pub fn applied(p: usize, h: usize, f: usize, number: usize) -> After
+// The number of the stack that the function f makes of the stack of a number; none where it is not applicable there.
+pub fn applied(p: usize, h: usize, f: usize, number: usize) -> Result<Option<usize>, Refusal>
     ensures { result ≡ applied_of p h f number }
 {
-    match stacks::stack_count(p, h) {
-        Answer::Value(most) => moved(p, most, f, number),
-        Answer::Refused(refusal) => After::Refused(refusal),
-    }
-}
-
-fn inverted(f: usize) -> usize
-    requires { f < 192 }
-    ensures { result ≡ inverse f }
-{
-    if f < 64 {
-        return 8 * (f % 8) + f / 8 % 8;
-    }
-    if f < 128 {
-        return f + 64;
-    }
-    f - 64
+    moved(p, stacks::stack_count(p, h)?, f, number)
 }
 
 // The function that takes back what f does: applied to what f made of a stack, it makes that stack again.
-pub fn inverse_of(p: usize, f: usize) -> Answer
+pub fn inverse_of(p: usize, f: usize) -> Result<usize, Refusal>
     ensures { result ≡ inverse_of p f }
 {
-    if good_function(p, f) {
-        return Answer::Value(inverted(f));
-    }
-    Answer::Refused(4)
+    Ok(function_on(p, f)?.inverse())
 }

@@ -3,36 +3,36 @@ use Rattle.std.specs.Prelude.{ℕ, cond, eqb, ◌≡◌, Option, None, Some}
 use Rattle.refusal.specs.declared.Refusal.{Refusal}
 
 -- the number of a refusal
-abbrev pub number : Refusal → ℕ
-number Refusal.Sizes = 1
-number Refusal.Links = 2
-number Refusal.Table = 3
-number Refusal.Range = 4
-number Refusal.NoMessage = 5
-number Refusal.NoRoute = 6
-number Refusal.Broken = 7
-number Refusal.Limit = 8
-number Refusal.NoRoom = 9
-number Refusal.Short = 61
-number Refusal.WrongVersion = 62
-number Refusal.Header = 63
-number Refusal.Beyond = 64
-number Refusal.Checksum = 65
-number Refusal.Fragment = 66
-number Refusal.Higher = 67
+abbrev pub refusal_number : Refusal → ℕ
+refusal_number Refusal.Sizes = 1
+refusal_number Refusal.Links = 2
+refusal_number Refusal.Table = 3
+refusal_number Refusal.Range = 4
+refusal_number Refusal.NoMessage = 5
+refusal_number Refusal.NoRoute = 6
+refusal_number Refusal.Broken = 7
+refusal_number Refusal.Limit = 8
+refusal_number Refusal.NoRoom = 9
+refusal_number Refusal.Short = 61
+refusal_number Refusal.WrongVersion = 62
+refusal_number Refusal.Header = 63
+refusal_number Refusal.Beyond = 64
+refusal_number Refusal.Checksum = 65
+refusal_number Refusal.Fragment = 66
+refusal_number Refusal.Higher = 67
 
 -- the number that a conversion gives
 abbrev pub IsNumberOf : Refusal → ℕ → Type 0
-IsNumberOf refusal n = n ≡ number refusal
+IsNumberOf refusal n = n ≡ refusal_number refusal
 
 -- of a call that may be refused: the number, 0 where it is not
 abbrev pub number_or_none : Option Refusal → ℕ
 number_or_none None = 0
-number_or_none (Some refusal) = number refusal
+number_or_none (Some refusal) = refusal_number refusal
 
 -- The refusal that has a number, so that a definition can say which number is given first. (No call is refused with a number that stands in no line:
--- proofs/Named.antt has the law that `number` takes `named` back.)
-unfoldable pub named : ℕ → Refusal
+-- proofs/Named.antt has the law that `refusal_number` takes `named` back.)
+abbrev pub named : ℕ → Refusal
 named k =
     cond (eqb k 1) Refusal.Sizes (cond (eqb k 2) Refusal.Links (cond (eqb k 3) Refusal.Table (cond (eqb k 4) Refusal.Range
     (cond (eqb k 5) Refusal.NoMessage (cond (eqb k 6) Refusal.NoRoute (cond (eqb k 7) Refusal.Broken (cond (eqb k 8) Refusal.Limit

@@ -9,12 +9,13 @@ use borrow.Author.Tests.{le-leb, lt-leb}
 use Rattle.stacks.specs.Stacks.{ok_size, ok_stack, ok_number, count, height, stack_of}
 use Rattle.stacks.specs.Answers.{ok_out, height_of, out_of, number_of}
 use Rattle.stacks.specs.Steps.{scan}
-use Rattle.stacks.specs.declared.Answer.TheVariants.{Value, Refused}
+use Rattle.std.specs.Prelude.{Ok, Err}
+use Rattle.refusal.specs.declared.Refusal.{Refusal}
 use Rattle.stacks.proofs.Scan.{scan_is}
 
 -- a refusal, and the buffer as it was
 abbrev pub Kept : ℕ → ℕ → ℕ → List ℕ → Type 0
-Kept p h n out = (Refused 4 ≡ height_of p h n out) × (out ≡ out_of p h n out)
+Kept p h n out = (Err Refusal.Range ≡ height_of p h n out) × (out ≡ out_of p h n out)
 
 kept : (p h n : ℕ) (out : List ℕ) → ok_out p h n out ≡ false → Kept p h n out
 kept p h n out e = (simp e, simp e)
@@ -39,7 +40,7 @@ module _ (p h n : ℕ) (out : List ℕ) where
 
     -- the stack in the buffer's front, where it has room
     pub written : {high : ℕ} {left : List ℕ} → 1 ≤ n → n ≤ count p h → high ≡ height p h n → high ≤ length out → left ≡ stack_of p h n ++ drop high out
-        → (Value high ≡ height_of p h n out) × (left ≡ out_of p h n out)
+        → (Ok high ≡ height_of p h n out) × (left ≡ out_of p h n out)
     unfolding ok_out ok_number
     written some most is long wrote =
         let yes : ok_out p h n out ≡ true = simp (size, le-leb 1 n some, le-leb n (count p h) most, le-leb (height p h n) (length out) (omega arith)) in
@@ -48,11 +49,11 @@ module _ (p h n : ℕ) (out : List ℕ) where
 -- the number of a stack
 
 module _ (p h : ℕ) (s : List ℕ) (size : ok_size p h ≡ true) where
-  pub no_stack : length s < 1 → Refused 4 ≡ number_of p h s
+  pub no_stack : length s < 1 → Err Refusal.Range ≡ number_of p h s
   unfolding ok_stack
   no_stack none = simp (size, lt-leb 1 (length s) none)
 
-  pub too_high : 1 ≤ length s → h < length s → Refused 4 ≡ number_of p h s
+  pub too_high : 1 ≤ length s → h < length s → Err Refusal.Range ≡ number_of p h s
   unfolding ok_stack
   too_high some high = simp (size, le-leb 1 (length s) some, lt-leb (length s) h high)
 

@@ -10,22 +10,23 @@ use lib.Dec.{ltb}
 use borrow.Author.Tests.{lt-ltb, le-ltb}
 use Rattle.stacks.specs.Stacks.{below, number_from}
 use Rattle.stacks.specs.Steps.{scan}
-use Rattle.stacks.specs.declared.Answer.TheVariants.{Value, Refused}
+use Rattle.std.specs.Prelude.{Ok, Err}
+use Rattle.refusal.specs.declared.Refusal.{Refusal}
 
-pub scan_is : (p n : ℕ) (s : List ℕ) → scan p n s ≡ cond (below p s) (Value (number_from p n s)) (Refused 4)
+pub scan_is : (p n : ℕ) (s : List ℕ) → scan p n s ≡ cond (below p s) (Ok (number_from p n s)) (Err Refusal.Range)
 scan_is p n [] = refl
 scan_is p n (q ∷ s) = go (ltb q p) (scan_is p (p * n + q + 1) s)
   where
-    go : (b : Bool) → scan p (p * n + q + 1) s ≡ cond (below p s) (Value (number_from p (p * n + q + 1) s)) (Refused 4)
-        → cond b (scan p (p * n + q + 1) s) (Refused 4) ≡ cond (b && below p s) (Value (number_from p (p * n + q + 1) s)) (Refused 4)
+    go : (b : Bool) → scan p (p * n + q + 1) s ≡ cond (below p s) (Ok (number_from p (p * n + q + 1) s)) (Err Refusal.Range)
+        → cond b (scan p (p * n + q + 1) s) (Err Refusal.Range) ≡ cond (b && below p s) (Ok (number_from p (p * n + q + 1) s)) (Err Refusal.Range)
     go true e = e
     go false e = refl
 
 pub scan_step : (p n : ℕ) (s : List ℕ) (i : ℕ) → i < length s → get_or s i 0 < p → scan p n (drop i s) ≡ scan p (p * n + get_or s i 0 + 1) (drop (i + 1) s)
 scan_step p n s i more small = rw (add-one i, drop-cons s i 0 more) (simp (lt-ltb _ _ small))
 
-pub scan_stop : (p n : ℕ) (s : List ℕ) (i : ℕ) → i < length s → p ≤ get_or s i 0 → scan p n (drop i s) ≡ Refused 4
+pub scan_stop : (p n : ℕ) (s : List ℕ) (i : ℕ) → i < length s → p ≤ get_or s i 0 → scan p n (drop i s) ≡ Err Refusal.Range
 scan_stop p n s i more large = rw (drop-cons s i 0 more) (simp (le-ltb _ _ large))
 
-pub scan_end : (p n : ℕ) (s : List ℕ) (i : ℕ) → length s ≤ i → scan p n (drop i s) ≡ Value n
+pub scan_end : (p n : ℕ) (s : List ℕ) (i : ℕ) → length s ≤ i → scan p n (drop i s) ≡ Ok n
 scan_end p n s i past = rw (drop_of_length-le s past)

@@ -6,12 +6,7 @@ ghost use Rattle.stacks.specs.Stacks.{ok_size, count, height, stack_of};
 ghost use Rattle.stacks.specs.Answers.{count_of, number_of, height_of, out_of};
 ghost use Rattle.stacks.specs.Steps.{scan};
 
-// A number, or the refusal's number.
-#[derive(Clone, Copy)]
-pub enum Answer {
-    Value(usize),
-    Refused(u32),
-}
+use refusal::Refusal;
 
 fn good_size(p: usize, h: usize) -> bool
     ensures { result ≡ ok_size p h }
@@ -34,18 +29,18 @@ fn total(p: usize, h: usize) -> usize
 }
 
 // How many stacks of height 1 to h there are: S.
-pub fn stack_count(p: usize, h: usize) -> Answer
+pub fn stack_count(p: usize, h: usize) -> Result<usize, Refusal>
     ensures { result ≡ count_of p h }
 {
     if good_size(p, h) {
-        Answer::Value(total(p, h))
+        Ok(total(p, h))
     } else {
-        Answer::Refused(4)
+        Err(Refusal::Range)
     }
 }
 
 // From the bottom up; a protocol that is not below p ends it.
-fn scanned(p: usize, stack: &[u8]) -> Answer
+fn scanned(p: usize, stack: &[u8]) -> Result<usize, Refusal>
     requires { (1 ≤ p) × (p ≤ 8) × (length stack.now ≤ 12) }
     ensures { result ≡ scan p 0 stack.now }
 {
@@ -54,28 +49,28 @@ fn scanned(p: usize, stack: &[u8]) -> Answer
     while i < stack.len() {
         let q = stack[i] as usize;
         if p <= q {
-            return Answer::Refused(4);
+            return Err(Refusal::Range);
         }
         n = p * n + q + 1;
         i += 1;
     }
-    Answer::Value(n)
+    Ok(n)
 }
 
 // The number of a stack, bottom to top.
-pub fn number_of(p: usize, h: usize, stack: &[u8]) -> Answer
+pub fn number_of(p: usize, h: usize, stack: &[u8]) -> Result<usize, Refusal>
     ensures { result ≡ number_of p h stack.now }
 {
     if good_size(p, h) {
         if stack.len() < 1 {
-            return Answer::Refused(4);
+            return Err(Refusal::Range);
         }
         if h < stack.len() {
-            return Answer::Refused(4);
+            return Err(Refusal::Range);
         }
         scanned(p, stack)
     } else {
-        Answer::Refused(4)
+        Err(Refusal::Range)
     }
 }
 
@@ -110,23 +105,23 @@ fn filled(p: usize, h: usize, number: usize, high: usize, out: &mut [u8])
 }
 
 // The stack of a number, bottom to top, into the front of out; answers its height.
-pub fn stack_of(p: usize, h: usize, number: usize, out: &mut [u8]) -> Answer
+pub fn stack_of(p: usize, h: usize, number: usize, out: &mut [u8]) -> Result<usize, Refusal>
     ensures { (result ≡ height_of p h number out.old) × (out.new ≡ out_of p h number out.old) }
 {
     if good_size(p, h) {
         if number < 1 {
-            return Answer::Refused(4);
+            return Err(Refusal::Range);
         }
         if total(p, h) < number {
-            return Answer::Refused(4);
+            return Err(Refusal::Range);
         }
         let high = height_of(p, h, number);
         if out.len() < high {
-            return Answer::Refused(4);
+            return Err(Refusal::Range);
         }
         filled(p, h, number, high, out);
-        Answer::Value(high)
+        Ok(high)
     } else {
-        Answer::Refused(4)
+        Err(Refusal::Range)
     }
 }

@@ -1,4 +1,4 @@
--- What an answer of the search tells: Nowhere, that every word looked at is 0; a place, that it is the first that is not.
+-- What an answer of the search tells: None, that every word looked at is 0; a place, that it is the first that is not.
 use mathlib.Core.Path.{◌≡◌, refl, ap, subst, ◌∙◌}
 use mathlib.Core.List.{List}
 use Prim.Native.Nat.{ℕ, zero, suc, ◌+◌, ◌-◌, ◌≤◌, ◌<◌, min}
@@ -8,8 +8,8 @@ use lib.ListN.{length, get_or}
 use lib.Seq.{take_all}
 use Rattle.bits.specs.Bits.{lowest}
 use Rattle.words.specs.declared.Found.{Found}
-use Rattle.words.specs.declared.Found.TheVariants.{Nowhere, At}
-use Rattle.words.specs.Words.{first_set_from, first_in, first_between}
+use Rattle.std.specs.Prelude.{Option, Some, None}
+use Rattle.words.specs.Words.{found_at, first_set_from, first_in, first_between}
 use Rattle.words.proofs.Search.{first_here, first_next, first_end, first_cut}
 
 -- the words at from .. to - 1 are 0
@@ -26,24 +26,24 @@ pub record Here (ws : List ℕ) (from to place v : ℕ) : Type 0 where
   pub quiet : Quiet ws from place
 
 -- what each answer says
-abbrev pub Says : List ℕ → ℕ → ℕ → Found → Type 0
-Says ws from to Nowhere = Quiet ws from to
-Says ws from to (At place v) = Here ws from to place v
+abbrev pub Says : List ℕ → ℕ → ℕ → Option Found → Type 0
+Says ws from to None = Quiet ws from to
+Says ws from to (Some f) = Here ws from to f.word f.bit
 
 ahead : (ws : List ℕ) (i to : ℕ) → get_or ws i 0 ≡ 0 → Quiet ws (i + 1) to → (k : ℕ) → i ≤ k → k < to → Dec (k ≡ i) → get_or ws k 0 ≡ 0
 ahead ws i to z q k l h (yes e) = ap (λ (n : ℕ). get_or ws n 0) e ∙ z
 ahead ws i to z q k l h (no ne) = q k (omega (arith, ne)) h
 
 -- one word that is 0 in front changes nothing
-earlier : (ws : List ℕ) (i to : ℕ) → get_or ws i 0 ≡ 0 → (f : Found) → Says ws (i + 1) to f → Says ws i to f
-earlier ws i to z Nowhere q = λ k l h. ahead ws i to z q k l h (ℕ_discrete k i)
-earlier ws i to z (At place v) q = record {
+earlier : (ws : List ℕ) (i to : ℕ) → get_or ws i 0 ≡ 0 → (f : Option Found) → Says ws (i + 1) to f → Says ws i to f
+earlier ws i to z None q = λ k l h. ahead ws i to z q k l h (ℕ_discrete k i)
+earlier ws i to z (Some f) q = record {
   after = omega (arith, q.after);
   before = q.before;
   inside = q.inside;
   waits = q.waits;
   lowest_bit = q.lowest_bit;
-  quiet = λ k l h. ahead ws i place z q.quiet k l h (ℕ_discrete k i);
+  quiet = λ k l h. ahead ws i f.word z q.quiet k l h (ℕ_discrete k i);
 }
 
 -- by the number n of words that are left to look at
@@ -68,10 +68,10 @@ pub first_says : (ws : List ℕ) (from to : ℕ) → Says ws from (min to (lengt
 first_says ws from to =
     subst (Says ws from (min to (length ws))) (first_cut ws from to) (walk ws (min to (length ws)) (omega arith) (min to (length ws)) from (omega arith))
 
-pub first_nowhere : (ws : List ℕ) (from to : ℕ) → first_between from to ws ≡ Nowhere → Quiet ws from (min to (length ws))
+pub first_nowhere : (ws : List ℕ) (from to : ℕ) → first_between from to ws ≡ None → Quiet ws from (min to (length ws))
 first_nowhere ws from to e = subst (Says ws from (min to (length ws))) e (first_says ws from to)
 
-pub first_at : (ws : List ℕ) (from to place v : ℕ) → first_between from to ws ≡ At place v → Here ws from (min to (length ws)) place v
+pub first_at : (ws : List ℕ) (from to place v : ℕ) → first_between from to ws ≡ found_at place v → Here ws from (min to (length ws)) place v
 first_at ws from to place v e = subst (Says ws from (min to (length ws))) e (first_says ws from to)
 
 -- a search of the whole list

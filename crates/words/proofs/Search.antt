@@ -13,8 +13,8 @@ use lib.Seq.{drop-cons, take_all}
 use Rattle.bits.specs.Bits.{lowest, ones_of}
 use Rattle.bits.proofs.Bits.{zero_of_or}
 use Rattle.bits.proofs.Counts.{ones_le, ones_zero}
-use Rattle.words.specs.declared.Found.TheVariants.{Nowhere, At}
-use Rattle.words.specs.Words.{ones_in, ones_answer, first_set_from, first_between}
+use Rattle.std.specs.Prelude.{None}
+use Rattle.words.specs.Words.{found_at, ones_in, ones_answer, first_set_from, first_between}
 
 -- ---- the count
 pub count_few : (ws : List ℕ) → length ws ≤ 524288 → ones_answer ws ≡ ones_in ws
@@ -54,17 +54,17 @@ part_cons ws i to h l =
     ap₂ take e (drop-cons ws i 0 l ∙ ap (λ (n : ℕ). get_or ws i 0 ∷ drop n ws) (sym (add-one i)))
 
 pub first_here : (ws : List ℕ) (i to : ℕ) → i < to → i < length ws → (get_or ws i 0 ≡ 0 → ⊥)
-    → first_between i to ws ≡ At i (lowest (get_or ws i 0))
+    → first_between i to ws ≡ found_at i (lowest (get_or ws i 0))
 unfolding first_between first_set_from
 first_here ws i to h l ne =
     ap (λ (xs : List ℕ). first_set_from i xs) (part_cons ws i to h l)
-    ∙ ap (λ (t : Bool). cond t (first_set_from (suc i) (take (to - (i + 1)) (drop (i + 1) ws))) (At i (lowest (get_or ws i 0)))) (ne_eqb (get_or ws i 0) 0 ne)
+    ∙ ap (λ (t : Bool). cond t (first_set_from (suc i) (take (to - (i + 1)) (drop (i + 1) ws))) (found_at i (lowest (get_or ws i 0)))) (ne_eqb (get_or ws i 0) 0 ne)
 
 pub first_next : (ws : List ℕ) (i to : ℕ) → i < to → i < length ws → get_or ws i 0 ≡ 0 → first_between i to ws ≡ first_between (i + 1) to ws
 unfolding first_between first_set_from
 first_next ws i to h l z =
     ap (λ (xs : List ℕ). first_set_from i xs) (part_cons ws i to h l)
-    ∙ ap (λ (t : Bool). cond t (first_set_from (suc i) (take (to - (i + 1)) (drop (i + 1) ws))) (At i (lowest (get_or ws i 0)))) (eq-eqb (get_or ws i 0) 0 z)
+    ∙ ap (λ (t : Bool). cond t (first_set_from (suc i) (take (to - (i + 1)) (drop (i + 1) ws))) (found_at i (lowest (get_or ws i 0)))) (eq-eqb (get_or ws i 0) 0 z)
     ∙ ap (λ (n : ℕ). first_set_from n (take (to - (i + 1)) (drop (i + 1) ws))) (sym (add-one i))
 
 -- four words whose OR is 0 are passed over at once
@@ -83,7 +83,7 @@ first_four ws i to h l z =
     next : (k n : ℕ) → n ≡ k + 1 → k < to → get_or ws k 0 ≡ 0 → first_between k to ws ≡ first_between n to ws
     next k n e m q = first_next ws k to m (omega arith) q ∙ ap (λ (j : ℕ). first_between j to ws) (sym e)
 
-pub first_end : (ws : List ℕ) (i to : ℕ) → to ≤ i → first_between i to ws ≡ Nowhere
+pub first_end : (ws : List ℕ) (i to : ℕ) → to ≤ i → first_between i to ws ≡ None
 unfolding first_between first_set_from
 first_end ws i to h =
     let e : to - i ≡ 0 = omega arith in

@@ -4,11 +4,11 @@
 ghost use Rattle.std.specs.Prelude.{◌≡◌, min, ◌≤◌, length};
 ghost use Rattle.words.specs.Words.{ones_answer, first_between};
 
-// Where a search ended: the place of a word in the slice, and the number of its lowest bit.
-#[derive(Clone, Copy)]
-pub enum Found {
-    Nowhere,
-    At(usize, usize),
+/// A set bit: the place of its word in the slice, and its number.
+#[derive(Clone, Copy, Debug, PartialEq, Eq, Drop)]
+pub struct Found {
+    pub word: usize,
+    pub bit: usize,
 }
 
 // How many bits of all the words are set; 0 where there are more words than 2^19, so that no sum can wrap.
@@ -55,7 +55,7 @@ fn skipped(words: &[u32], from: usize, end: usize) -> usize
 }
 
 // The first word that is not 0 at the places from .. to - 1 that the slice has, and its lowest bit.
-pub fn first_in(words: &[u32], from: usize, to: usize) -> Found
+pub fn first_in(words: &[u32], from: usize, to: usize) -> Option<Found>
     ensures { result ≡ first_between from to words.now }
 {
     let end = smaller(to, words.len());
@@ -63,9 +63,12 @@ pub fn first_in(words: &[u32], from: usize, to: usize) -> Found
     while i < end {
         let word = words[i];
         if word != 0 {
-            return Found::At(i, bits::lowest(word));
+            return Some(Found {
+                word: i,
+                bit: bits::lowest(word),
+            });
         }
         i += 1;
     }
-    Found::Nowhere
+    None
 }

@@ -2,8 +2,7 @@
 use mathlib.Core.Path.{sym, ap, ◌∙◌}
 use Prim.Native.Nat.{ℕ}
 use native.Mathlib.Omega.{arith}
-use Rattle.words.specs.declared.Found.TheVariants.{At}
-use Rattle.words.specs.Words.{first_between}
+use Rattle.words.specs.Words.{found_at, first_between}
 use Rattle.words.proofs.Search.{first_here, first_next, first_end, first_cut}
 use Rattle.words.proofs.first_in.Goals as goal
 
@@ -17,7 +16,7 @@ returns-then-word-ne0 c =
     let words = c.args.words.now in
     let i = c.loop-i.i in
     let end = c.smaller-end.result in
-    ap (λ (v : ℕ). At i v) c.lowest.ensures
+    ap (λ (v : ℕ). found_at i v) c.lowest.ensures
     ∙ sym (first_here words i end (omega arith) (omega arith) c.if-word-ne0.true)
     ∙ c.loop-i.invariant
 
