@@ -11,12 +11,10 @@ fn summed(packet: &[u8], s: usize, count: usize) -> usize
     requires { (s + 2 * count ≤ length packet.now) × (count ≤ 30) }
     ensures { result ≡ sum packet.now s count }
 {
-    let mut total: usize = 0;
-    let mut i: usize = 0;
-    while i < count {
+    let mut total = 0;
+    for i in 0..count {
         let both = total + pair_at(packet, s, 2 * i);
         total = both % 65536 + both / 65536;
-        i += 1;
     }
     total
 }

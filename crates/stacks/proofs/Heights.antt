@@ -3,13 +3,9 @@ use Prim.Native.Nat.{ℕ, zero, suc, ◌+◌, ◌-◌, ◌/◌, ◌%◌, ◌≤�
 use native.Mathlib.Omega.{arith}
 use mathlib.Core.Path.{◌≡◌, refl, ap, ◌∙◌}
 use mathlib.Core.List.{List, ◌∷◌, ◌++◌, append_assoc}
-use lib.ListN.{length, get_or, take, drop, set}
+use lib.ListN.{length, get_or, take, set}
 use lib.Seq.{take-suc, set_at, length-take-le}
-use Rattle.stacks.specs.Stacks.{count, height, stack_under, stack_of}
-
-pub height_none : (p k : ℕ) → height p k 0 ≡ 0
-height_none p zero = refl
-height_none p (suc k) = refl
+use Rattle.stacks.specs.Stacks.{count, height, stack_under}
 
 height_suc : (p k n : ℕ) → 1 ≤ n → height p (suc k) n ≡ suc (height p k ((n - 1) / p))
 height_suc p k zero h = omega arith
@@ -69,8 +65,3 @@ set_down out rest zero v some le = absurd (omega arith)
 set_down out rest (suc j) v some le =
     let e : suc j - 1 ≡ j = omega arith in
     rw (e, take-suc out j 0 le, append_assoc) (set_at (take j out) (get_or out j 0) rest v j (length-take-le j out (omega arith)))
-
-pub out_done : (p h number high n i : ℕ) (out₀ out acc : List ℕ) → i ≤ 0 → stack_under p i n acc ≡ stack_of p h number
-    → out ≡ take i out₀ ++ (acc ++ drop high out₀) → out ≡ stack_of p h number ++ drop high out₀
-out_done p h number high n zero out₀ out acc none e f = f ∙ ap (λ (l : List ℕ). l ++ drop high out₀) e
-out_done p h number high n (suc i) out₀ out acc none e f = absurd (omega arith)

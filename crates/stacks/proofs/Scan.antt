@@ -1,13 +1,13 @@
 -- The number of a stack, a protocol at a time.
-use Prim.Native.Nat.{ℕ, ◌+◌, ◌*◌, ◌≤◌, ◌<◌}
+use Prim.Native.Nat.{ℕ, ◌+◌, ◌*◌, ◌<◌}
 use native.Mathlib.Numerals.{add-one}
 use mathlib.Core.Path.{◌≡◌, refl}
 use mathlib.Core.List.{List, [], ◌∷◌}
 use mathlib.Core.Bool.{Bool, true, false, cond, ◌&&◌}
-use lib.ListN.{length, get_or, drop, drop_of_length-le}
+use lib.ListN.{length, get_or, drop}
 use lib.Seq.{drop-cons}
 use lib.Dec.{ltb}
-use borrow.Author.Tests.{lt-ltb, le-ltb}
+use borrow.Author.Tests.{lt-ltb}
 use Rattle.stacks.specs.Stacks.{below, number_from}
 use Rattle.stacks.specs.Steps.{scan}
 use Rattle.std.specs.Prelude.{Ok, Err}
@@ -24,9 +24,3 @@ scan_is p n (q ∷ s) = go (ltb q p) (scan_is p (p * n + q + 1) s)
 
 pub scan_step : (p n : ℕ) (s : List ℕ) (i : ℕ) → i < length s → get_or s i 0 < p → scan p n (drop i s) ≡ scan p (p * n + get_or s i 0 + 1) (drop (i + 1) s)
 scan_step p n s i more small = rw (add-one i, drop-cons s i 0 more) (simp (lt-ltb _ _ small))
-
-pub scan_stop : (p n : ℕ) (s : List ℕ) (i : ℕ) → i < length s → p ≤ get_or s i 0 → scan p n (drop i s) ≡ Err Refusal.Range
-scan_stop p n s i more large = rw (drop-cons s i 0 more) (simp (le-ltb _ _ large))
-
-pub scan_end : (p n : ℕ) (s : List ℕ) (i : ℕ) → length s ≤ i → scan p n (drop i s) ≡ Ok n
-scan_end p n s i past = rw (drop_of_length-le s past)

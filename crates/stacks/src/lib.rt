@@ -19,11 +19,9 @@ fn total(p: usize, h: usize) -> usize
     requires { (p ≤ 8) × (h ≤ 12) }
     ensures { result ≡ count p h }
 {
-    let mut n: usize = 0;
-    let mut i: usize = 0;
-    while i < h {
+    let mut n = 0;
+    for _ in 0..h {
         n = p * n + p;
-        i += 1;
     }
     n
 }
@@ -44,15 +42,13 @@ fn scanned(p: usize, stack: &[u8]) -> Result<usize, Refusal>
     requires { (1 ≤ p) × (p ≤ 8) × (length stack.now ≤ 12) }
     ensures { result ≡ scan p 0 stack.now }
 {
-    let mut n: usize = 0;
-    let mut i: usize = 0;
-    while i < stack.len() {
-        let q = stack[i] as usize;
+    let mut n = 0;
+    for q in stack {
+        let q = *q as usize;
         if p <= q {
             return Err(Refusal::Range);
         }
         n = p * n + q + 1;
-        i += 1;
     }
     Ok(n)
 }
@@ -79,15 +75,13 @@ fn height_of(p: usize, h: usize, number: usize) -> usize
     ensures { result ≡ height p h number }
 {
     let mut n = number;
-    let mut i: usize = 0;
-    while i < h {
+    for i in 0..h {
         if n < 1 {
             return i;
         }
         n = (n - 1) / p;
-        i += 1;
     }
-    i
+    h
 }
 
 // From the top down, so that one pass finds each protocol's place.
@@ -96,9 +90,7 @@ fn filled(p: usize, h: usize, number: usize, high: usize, out: &mut [u8])
     ensures { out.new ≡ stack_of p h number ++ drop high out.old }
 {
     let mut n = number;
-    let mut i = high;
-    while 0 < i {
-        i -= 1;
+    for i in (0..high).rev() {
         out[i] = ((n - 1) % p) as u8;
         n = (n - 1) / p;
     }

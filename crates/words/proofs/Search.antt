@@ -8,7 +8,7 @@ use native.Mathlib.Numerals.{add-one}
 use native.Mathlib.Omega.{arith}
 use borrow.Author.Tests.{eq-eqb, ne_eqb, le-leb, lt-leb}
 use lib.Bits.{bit_or}
-use lib.ListN.{length, take, drop, get_or, set, length-drop, drop_of_length-le}
+use lib.ListN.{length, take, drop, get_or, set, length-drop}
 use lib.Seq.{drop-cons, take_all}
 use Rattle.bits.specs.Bits.{lowest, ones_of}
 use Rattle.bits.proofs.Bits.{zero_of_or}
@@ -24,14 +24,6 @@ count_few ws h = ap (λ (t : Bool). cond t (ones_in ws) 0) (le-leb (length ws) 5
 pub count_many : (ws : List ℕ) → 524288 < length ws → ones_answer ws ≡ 0
 unfolding ones_answer
 count_many ws h = ap (λ (t : Bool). cond t (ones_in ws) 0) (lt-leb (length ws) 524288 h)
-
-pub ones_in_next : (ws : List ℕ) (i : ℕ) → i < length ws → ones_in (drop i ws) ≡ ones_of (get_or ws i 0) + ones_in (drop (i + 1) ws)
-unfolding ones_in
-ones_in_next ws i h = rw (add-one, drop-cons ws i 0)
-
-pub ones_in_end : (ws : List ℕ) (i : ℕ) → length ws ≤ i → ones_in (drop i ws) ≡ 0
-unfolding ones_in
-ones_in_end ws i h = ap ones_in (drop_of_length-le ws h)
 
 -- each word has at most 32 set bits
 pub ones_in_most : (ws : List ℕ) → ones_in ws ≤ 32 * length ws

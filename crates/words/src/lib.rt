@@ -1,7 +1,7 @@
 // A slice of waiting words: its count of set bits, and the first set bit of a part of it. Every public function is total.
 #![tactic(auto)]
 
-ghost use Rattle.std.specs.Prelude.{◌≡◌, min, ◌≤◌, length};
+ghost use Rattle.std.specs.Prelude.{◌≡◌, ◌≤◌, length};
 ghost use Rattle.words.specs.Words.{ones_answer, first_between};
 
 /// A set bit: the place of its word in the slice, and its number.
@@ -18,20 +18,7 @@ pub fn ones_in(words: &[u32]) -> u64
     if 524288 < words.len() {
         return 0;
     }
-    let mut sum: u64 = 0;
-    let mut i = 0;
-    while i < words.len() {
-        sum += bits::ones(words[i]) as u64;
-        i += 1;
-    }
-    sum
-}
-
-// The smaller of two numbers.
-fn smaller(a: usize, b: usize) -> usize
-    ensures { result ≡ min a b }
-{
-    if a < b { a } else { b }
+    words.iter().map(|word| u64::from(bits::ones(*word))).sum()
 }
 
 // A place to start the search at: the words passed over, four at a time, are all 0.
@@ -39,14 +26,10 @@ fn skipped(words: &[u32], from: usize, end: usize) -> usize
     requires { end ≤ length words.now }
     ensures { first_between result end words.now ≡ first_between from end words.now }
 {
-    let stop = end - smaller(end, 3); // below it four words fit: i + 4 itself could wrap
+    let stop = end.saturating_sub(3); // below it four words fit: i + 4 itself could wrap
     let mut i = from;
     while i < stop {
-        let mut any = words[i];
-        any |= words[i + 1];
-        any |= words[i + 2];
-        any |= words[i + 3];
-        if any != 0 {
+        if words[i] | words[i + 1] | words[i + 2] | words[i + 3] != 0 {
             break;
         }
         i += 4;
@@ -58,9 +41,8 @@ fn skipped(words: &[u32], from: usize, end: usize) -> usize
 pub fn first_in(words: &[u32], from: usize, to: usize) -> Option<Found>
     ensures { result ≡ first_between from to words.now }
 {
-    let end = smaller(to, words.len());
-    let mut i = skipped(words, from, end);
-    while i < end {
+    let end = to.min(words.len());
+    for i in skipped(words, from, end)..end {
         let word = words[i];
         if word != 0 {
             return Some(Found {
@@ -68,7 +50,6 @@ pub fn first_in(words: &[u32], from: usize, to: usize) -> Option<Found>
                 bit: bits::lowest(word),
             });
         }
-        i += 1;
     }
     None
 }

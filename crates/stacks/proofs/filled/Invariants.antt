@@ -1,14 +1,11 @@
-use Prim.Native.Nat.{ℕ, ◌≤◌}
 use mathlib.Core.Path.{◌≡◌}
 use mathlib.Core.List.{List, ◌++◌}
-use lib.ListN.{length, take, drop}
+use Prim.Native.Nat.{ℕ}
+use lib.ListN.{take, drop}
 use Rattle.stacks.specs.Stacks.{height, stack_under, stack_of}
 use Rattle.stacks.proofs.filled.Given as goal
 
 abbrev pub invariant-loop-i : goal.invariant-loop-i
 invariant-loop-i l =
-    (l.i ≤ l.high) × (height l.p l.i l.n ≡ l.i) × (length l.out ≡ length l.initial.out)
+    (height l.p l.i l.n ≡ l.i)
     × ((acc : List ℕ) × (stack_under l.p l.i l.n acc ≡ stack_of l.p l.h l.number) × (l.out ≡ take l.i l.initial.out ++ (acc ++ drop l.high l.initial.out)))
-
-abbrev pub decreases-loop-i : goal.decreases-loop-i
-decreases-loop-i l = l.i

@@ -1,10 +1,7 @@
-use Prim.Native.Nat.{◌≤◌, ◌-◌, ◌+◌}
+use Prim.Native.Nat.{◌-◌, ◌+◌}
 use mathlib.Core.Path.{◌≡◌}
 use Rattle.stacks.specs.Stacks.{height}
 use Rattle.stacks.proofs.height_of.Given as goal
 
 abbrev pub invariant-loop-i : goal.invariant-loop-i
-invariant-loop-i l = (l.i ≤ l.h) × (l.i + height l.p (l.h - l.i) l.n ≡ height l.p l.h l.number)
-
-abbrev pub decreases-loop-i : goal.decreases-loop-i
-decreases-loop-i l = l.h - l.i
+invariant-loop-i l = l.i + height l.p (l.h - l.i) l.n ≡ height l.p l.h l.number
