@@ -1,13 +1,8 @@
 -- What private functions answer on the way; no public contract cites it.
-use Rattle.std.specs.Prelude.{ℕ, List, Bool, cond, ◌&&◌, ltb, eqb}
+use Rattle.std.specs.Prelude.{ℕ, List, Bool, ◌&&◌, ltb, eqb}
 use Rattle.std.specs.Bool.{beq}
 use Rattle.lists.specs.Lists.{every}
-use Rattle.bits.specs.Bits.{with_one}
 use Rattle.network.specs.Network.{link_at}
-
--- the word with bit W set where there is a link from U to W
-unfoldable pub with_link : ℕ → List ℕ → ℕ → ℕ → ℕ → ℕ
-with_link n links U W w = cond (ltb 0 (link_at n links U W)) (with_one w W) w
 
 -- there is a link both ways, or none
 unfoldable pub good_pair : ℕ → List ℕ → ℕ → ℕ → Bool

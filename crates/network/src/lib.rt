@@ -4,7 +4,7 @@
 ghost use Rattle.std.specs.Prelude.{◌≡◌, ◌*◌, ◌≤◌, ◌<◌, length, get_or};
 ghost use Rattle.network.specs.Network.{network_of, link_at, neighbours_at};
 ghost use Rattle.network.specs.Answers.{checked_of};
-ghost use Rattle.network.specs.Steps.{with_link, good_row, half_links};
+ghost use Rattle.network.specs.Steps.{good_row, half_links};
 
 // How many stacks a valid network has, or the first refusal that applies.
 #[derive(Clone, Copy)]
@@ -30,16 +30,6 @@ pub fn link_cost(n: usize, links: &[u16], u: usize, w: usize) -> u16
     entry(links, u * n + w)
 }
 
-// The word with bit w set where there is a link from the node to w.
-fn with_link(n: usize, links: &[u16], node: usize, w: usize, word: u32) -> u32
-    ensures { result ≡ with_link n links.now node w word }
-{
-    if 0 < link_cost(n, links, node, w) {
-        return bits::with_one(word, w);
-    }
-    word
-}
-
 // The neighbours of a node as a word, a bit for each.
 pub fn neighbours(n: usize, links: &[u16], node: usize) -> u32
     ensures { result ≡ neighbours_at n links.now node }
@@ -48,10 +38,10 @@ pub fn neighbours(n: usize, links: &[u16], node: usize) -> u32
         return 0;
     }
     let mut word: u32 = 0;
-    let mut w: usize = 0;
-    while w < n {
-        word = with_link(n, links, node, w, word);
-        w += 1;
+    for w in 0..n {
+        if 0 < link_cost(n, links, node, w) {
+            word = bits::with_one(word, w);
+        }
     }
     word
 }
@@ -69,17 +59,8 @@ fn good_row(n: usize, links: &[u16], u: usize) -> bool
     requires { (n ≤ 32) × (length links.now ≡ n * n) × (u < n) }
     ensures { result ≡ good_row n links.now u }
 {
-    if 0 < link_in(n, links, u, u) {
-        return false;
-    }
-    let mut w: usize = 0;
-    while w < u {
-        if (0 < link_in(n, links, u, w)) != (0 < link_in(n, links, w, u)) {
-            return false;
-        }
-        w += 1;
-    }
-    true
+    link_in(n, links, u, u) == 0
+        && (0..u).all(|w| (0 < link_in(n, links, u, w)) == (0 < link_in(n, links, w, u)))
 }
 
 // Whether no node has a link to itself and every link goes both ways. Each pair is looked at once, from the later node.
@@ -87,14 +68,7 @@ fn good_links(n: usize, links: &[u16]) -> bool
     requires { (n ≤ 32) × (length links.now ≡ n * n) }
     ensures { result ≡ half_links n links.now }
 {
-    let mut u: usize = 0;
-    while u < n {
-        if !good_row(n, links, u) {
-            return false;
-        }
-        u += 1;
-    }
-    true
+    (0..n).all(|u| good_row(n, links, u))
 }
 
 // How many stacks the network has, or why it is refused. Each number is tested before it takes part in a product.

@@ -1,43 +1,22 @@
--- `network::good_row` meets its contract. The invariant: each node before w is linked both ways or not at all.
+-- `network::good_row` meets its contract: it asks of the node itself and of each before it what `good_row` asks.
 use native.Mathlib.Omega.{arith}
-use mathlib.Core.Path.{sym, ◌∙◌}
-use borrow.Author.Count.{below_more}
-use borrow.Author.Tests.{not-true, not-false}
-use Rattle.network.proofs.Rows.{pair_told, row_loop, row_one_way, row_good}
+use mathlib.Core.Path.{refl, sym, ◌∙◌}
+use borrow.Author.Tests.{eq-eqb, ne_eqb}
+use Rattle.std.proofs.Common.{rules}
+use Rattle.std.proofs.lemmas.Iterator.{YieldsList-from_range}
+use Rattle.std.proofs.lemmas.Iterator.Search.{all_from_yields_List}
+use Rattle.lists.proofs.Ranges.{all_every}
+use Rattle.network.specs.Steps.{good_pair, good_row}
 use Rattle.network.proofs.good_row.Goals as goal
 
-pub link_in-requires : goal.link_in-requires
-link_in-requires c = (c.requires.0, c.requires.1, c.requires.2, c.requires.2)
-
-pub returns-then-link_in-gt0 : goal.returns-then-link_in-gt0
-returns-then-link_in-gt0 c =
+pub returns-then-link_in-eq0 : goal.returns-then-link_in-eq0
+unfolding good_row good_pair
+returns-then-link_in-eq0 c =
     let a = c.args in
-    sym (row_loop a.n a.links.now a.u (omega (arith, c.link_in.ensures, c.if-link_in-gt0.true)))
+    rw (eq-eqb _ 0 (sym c.link_in.ensures ∙ c.if-link_in-eq0.true))
+    (all_from_yields_List _ _ _ _ c.all.ensures.ran (YieldsList-from_range 0 a.u a.u refl (omega arith)) (λ x b q k. search rules)
+    ∙ all_every a.u (λ W. good_pair a.n a.links.now a.u W))
 
-pub loop-w-init : goal.loop-w-init
-loop-w-init c = (omega arith, λ k low. absurd (omega arith))
-
-pub link_in-requires-in-loop-w : goal.link_in-requires-in-loop-w
-link_in-requires-in-loop-w c = let pre = c.requires in (pre.0, pre.1, pre.2, omega arith)
-
-pub link_in-requires-in-loop-w-2 : goal.link_in-requires-in-loop-w-2
-link_in-requires-in-loop-w-2 c = let pre = c.requires in (pre.0, pre.1, omega arith, pre.2)
-
-pub returns-then-link_in : goal.returns-then-link_in
-returns-then-link_in c =
-    let a = c.args in
-    sym (row_one_way a.n a.links.now a.u c.loop-w.w (omega arith)
-    (sym (pair_told _ _ _ _ _ _ c.link_in-in-loop-w.ensures c.link_in-in-loop-w-2.ensures) ∙ not-true _ c.if-link_in.true))
-
-pub loop-w-preserved : goal.loop-w-preserved
-loop-w-preserved c =
-    let l = c.loop-w in (
-      omega arith,
-      below_more _ l.w l.invariant.1 (sym (pair_told _ _ _ _ _ _ c.link_in-in-loop-w.ensures c.link_in-in-loop-w-2.ensures)
-          ∙ not-false _ c.if-link_in.false),
-    )
-
-pub returns : goal.returns
-returns c =
-    let a = c.args in
-    sym (row_good a.n a.links.now a.u (omega (arith, c.link_in.ensures, c.if-link_in-gt0.false)) (λ k low. c.loop-w.invariant.1 k (omega arith)))
+pub returns-else-link_in-eq0 : goal.returns-else-link_in-eq0
+unfolding good_row
+returns-else-link_in-eq0 c = rw (sym c.link_in.ensures, ne_eqb _ 0 c.if-link_in-eq0.false) refl

@@ -1,4 +1,3 @@
-use Prim.Native.Nat.{◌-◌, ◌≤◌}
 use mathlib.Core.Path.{◌≡◌}
 use lib.Dec.{ltb}
 use Rattle.bits.specs.Bits.{word_of}
@@ -6,7 +5,4 @@ use Rattle.network.specs.Network.{link_at}
 use Rattle.network.proofs.neighbours.Given as goal
 
 abbrev pub invariant-loop-w : goal.invariant-loop-w
-invariant-loop-w l = (l.w ≤ l.n) × (l.word ≡ word_of l.w (λ W. ltb 0 (link_at l.n l.links l.node W)))
-
-abbrev pub decreases-loop-w : goal.decreases-loop-w
-decreases-loop-w l = l.n - l.w
+invariant-loop-w l = l.word ≡ word_of l.w (λ W. ltb 0 (link_at l.n l.links l.node W))
