@@ -11,9 +11,9 @@ use Rattle.stacks.specs.Stacks.{ok_size, count}
 use Rattle.network.specs.Network.{network_of, is_node, link_at, present, neighbours_at, neighbours, ok_sizes, ok_links, refusal_of}
 use Rattle.network.specs.SmallNetwork.{links, functions, smallnet}
 use Rattle.network.specs.Answers.{checked_of}
-use Rattle.network.specs.declared.Checked.{Checked}
+use Rattle.std.specs.Prelude.{Ok}
 
-pub not_refused : (refusal_of smallnet ≡ 0) × (checked_of smallnet ≡ Checked.Stacks 6)
+pub not_refused : (refusal_of smallnet ≡ 0) × (checked_of smallnet ≡ Ok 6)
 unfolding refusal_of ok_sizes ok_links ok_size every present link_at is_node
 not_refused = (refl, refl)
 

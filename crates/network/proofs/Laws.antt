@@ -15,7 +15,10 @@ use Rattle.bits.specs.Bits.{has}
 use Rattle.bits.proofs.Masks.{has_word_of, word_of_fits}
 use Rattle.network.specs.Network.{Network, stacks, link_at, link, present, neighbours_at, neighbours, ok_sizes, ok_links, refusal_of}
 use Rattle.network.specs.Answers.{checked_of}
-use Rattle.network.specs.declared.Checked.{Checked}
+use Rattle.std.specs.Prelude.{Ok, Err}
+use Rattle.refusal.specs.declared.Refusal.{Refusal}
+use Rattle.refusal.specs.Numbers.{named}
+use Rattle.refusal.proofs.Answers.{answered_ok, answered_err}
 use Rattle.network.proofs.Entries.{node_is, node_past, link_from_none, link_to_none, link_nodes}
 use Rattle.network.proofs.Links.{links_none, links_same}
 
@@ -85,28 +88,20 @@ refusal_bound true true = omega arith
 refusal_bound true false = omega arith
 refusal_bound false l = omega arith
 
-answer_stacks : (r m s : ℕ) (t : Bool) → eqb r 0 ≡ t → cond t (Checked.Stacks m) (Checked.Refused r) ≡ Checked.Stacks s → (r ≡ 0) × (s ≡ m)
-answer_stacks r m s true z e = (eqb-true r 0 z, (cc))
-answer_stacks r m s false z e = absurd (let o : ◌≡◌ {A = ℕ} 0 1 = cc in omega arith)
-
-answer_refused : (r m x : ℕ) (t : Bool) → eqb r 0 ≡ t → cond t (Checked.Stacks m) (Checked.Refused r) ≡ Checked.Refused x → (r ≡ x) × (eqb r 0 ≡ false)
-answer_refused r m x true z e = absurd (let o : ◌≡◌ {A = ℕ} 0 1 = cc in omega arith)
-answer_refused r m x false z e = ((cc), z)
-
 module _ (net : Network) where
   pub refusal_most : refusal_of net ≤ 2
   unfolding refusal_of
   refusal_most = refusal_bound (ok_sizes net) (ok_links net)
 
-  pub checked_valid : (s : ℕ) → checked_of net ≡ Checked.Stacks s → (refusal_of net ≡ 0) × (s ≡ stacks net)
-  checked_valid s e = answer_stacks (refusal_of net) (stacks net) s (eqb (refusal_of net) 0) refl e
+  pub checked_valid : (s : ℕ) → checked_of net ≡ Ok s → (refusal_of net ≡ 0) × (s ≡ stacks net)
+  checked_valid s e = answered_ok (refusal_of net) (stacks net) s (sym e)
 
-  pub checked_refused : (r : ℕ) → checked_of net ≡ Checked.Refused r → (refusal_of net ≡ r) × (1 ≤ r) × (r ≤ 2)
+  pub checked_refused : (r : Refusal) → checked_of net ≡ Err r → (r ≡ named (refusal_of net)) × (1 ≤ refusal_of net) × (refusal_of net ≤ 2)
   checked_refused r e =
-      let a = answer_refused (refusal_of net) (stacks net) r (eqb (refusal_of net) 0) refl e in
+      let a = answered_err (refusal_of net) (stacks net) r (sym e) in
       let some : 1 ≤ refusal_of net = by_cases (dec_lt 0 (refusal_of net)) (λ h. h)
-      (λ h. absurd (false≢true (sym a.1 ∙ eq-eqb (refusal_of net) 0 (omega arith)))) in
-      (a.0, omega (arith, a.0), omega (arith, a.0, refusal_most))
+      (λ h. absurd (false≢true (sym a.0 ∙ eq-eqb (refusal_of net) 0 (omega arith)))) in
+      (a.1, some, refusal_most)
 
 -- ---- links
 module _ (net : Network) where

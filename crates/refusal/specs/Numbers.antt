@@ -1,5 +1,5 @@
 -- The part "Refusal numbers" of the specification, and those of request Six (61 to 67).
-use Rattle.std.specs.Prelude.{ℕ, cond, eqb, ◌≡◌, Option, None, Some}
+use Rattle.std.specs.Prelude.{ℕ, cond, eqb, ◌≡◌, Option, None, Some, Result, Ok, Err}
 use Rattle.refusal.specs.declared.Refusal.{Refusal}
 
 -- the number of a refusal
@@ -38,3 +38,7 @@ named k =
     (cond (eqb k 5) Refusal.NoMessage (cond (eqb k 6) Refusal.NoRoute (cond (eqb k 7) Refusal.Broken (cond (eqb k 8) Refusal.Limit
     (cond (eqb k 61) Refusal.Short (cond (eqb k 62) Refusal.WrongVersion (cond (eqb k 63) Refusal.Header (cond (eqb k 64) Refusal.Beyond
     (cond (eqb k 65) Refusal.Checksum (cond (eqb k 66) Refusal.Fragment (cond (eqb k 67) Refusal.Higher Refusal.NoRoom))))))))))))))
+
+-- what a call answers that is refused with this number, 0 where it is not
+abbrev pub answered : {A : Type 0} → ℕ → A → Result A Refusal
+answered r x = cond (eqb r 0) (Ok x) (Err (named r))
