@@ -1,5 +1,5 @@
 -- How far the loop of `hear` has come, over plain variables: where it starts, a turn that changes nothing, a turn that a row takes, where it ends.
-use Prim.Native.Nat.{ℕ, ◌+◌, ◌-◌, ◌*◌, ◌≤◌, ◌<◌}
+use Prim.Native.Nat.{ℕ, ◌+◌, ◌*◌, ◌≤◌, ◌<◌}
 use native.Mathlib.Nat.{mul-le-mul}
 use native.Mathlib.Omega.{arith}
 use mathlib.Core.Path.{◌≡◌, sym, ap, ◌∙◌, subst}
@@ -24,7 +24,6 @@ module _ (g : Gateway) (m : Message) (r : Rows) where
   pub record Heeds (s : Rows) (i count : ℕ) : Type 0 where
     pub passes : Passed g m r
     pub unrefused : refused g m r ≡ 0
-    pub turn : i ≤ 2 * g.p + 1
     pub few : count ≤ i
     pub came : Came g m i count r s
 
@@ -35,29 +34,21 @@ module _ (g : Gateway) (m : Message) (r : Rows) where
       record {
         passes = h;
         unrefused = e;
-        turn = omega arith;
         few = omega arith;
         came = record { rows = rows_none g m r h.lengths_good.ways_long h.lengths_good.waiting_long; counts = sym (taken_none g m r) };
       }
 
   module _ (s : Rows) (i count : ℕ) (h : Heeds s i count) where
-    pub ends : 2 * g.p + 1 ≤ i → Hears g m r (Heard.Rows count) s
-    ends high =
+    pub ends : i ≡ 2 * g.p + 1 → Hears g m r (Heard.Rows count) s
+    ends e =
         let some = h.passes.numbers_good.some in
-        let e : i ≡ 2 * g.p + 1 = omega (arith, h.turn) in
         finished g m r count s h.unrefused
         (h.came.counts ∙ ap (λ (x : ℕ). taken_below g m x r) e ∙ taken_all g m some r)
         (h.came.rows ∙ ap (λ (x : ℕ). rows_below g m x r) e ∙ rows_all g m some r)
 
-    -- the lists stay as long as they were
+    -- the costs stay as many as they were
     pub costs_long : length s.costs ≡ length r.costs
     costs_long = ap (λ (q : Rows). length q.costs) h.came.rows ∙ (rows_long g m i r).0
-
-    pub ways_long : length s.ways ≡ length r.ways
-    ways_long = ap (λ (q : Rows). length q.ways) h.came.rows ∙ (rows_long g m i r).1 ∙ sym h.passes.lengths_good.ways_long
-
-    pub waiting_long : length s.waiting ≡ length r.waiting
-    waiting_long = ap (λ (q : Rows). length q.waiting) h.came.rows ∙ (rows_long g m i r).2 ∙ sym h.passes.lengths_good.waiting_long
 
     pub its_turn : i < 2 * g.p + 1 → Turn g.p m.number i
     its_turn low =
@@ -82,33 +73,12 @@ module _ {g : Gateway} {m : Message} {r s : Rows} {i count : ℕ} {o : Offer} (q
       let n = q.heeds.passes.numbers_good in
       within 524288 (mul-le-mul {n₁ = m.destination + 1} {m₁ = g.most} {n₂ = 32} {m₂ = 16384} (omega (arith, n.known)) n.bounded)
 
-  -- no number of a turn wraps
+  -- and its distance in bytes fits a word
   pub near_4 : Fits w64 (o.place * 4)
   near_4 = omega (arith, near)
 
-  pub near_2 : Fits w64 (o.place * 2)
-  near_2 = omega (arith, near)
-
-  pub next_fits : Fits w64 (i + 1)
-  next_fits = omega (arith, q.low, q.heeds.passes.numbers_good.few)
-
-  pub counts_fit : Fits w64 (count + 1)
-  counts_fit = omega (arith, q.heeds.few, q.low, q.heeds.passes.numbers_good.few)
-
-  -- and fewer turns are left
-  pub nearer : 2 * g.p + 1 - (i + 1) < 2 * g.p + 1 - i
-  nearer = omega (arith, q.low)
-
   pub inside : o.place < length s.costs
   inside = within (length s.costs) (omega (arith, q.heeds.passes.lengths_good.wide, costs_long g m r s i count q.heeds))
-
-  pub inside_ways : o.place < length s.ways
-  inside_ways =
-      omega (arith, inside, costs_long g m r s i count q.heeds, ways_long g m r s i count q.heeds, q.heeds.passes.lengths_good.ways_long)
-
-  pub inside_waiting : o.place < length s.waiting
-  inside_waiting =
-      omega (arith, inside, costs_long g m r s i count q.heeds, waiting_long g m r s i count q.heeds, q.heeds.passes.lengths_good.waiting_long)
 
   pub stays : get_or s.costs o.place 0 ≤ o.cost → Heeds g m r s (i + 1) count
   stays high =
@@ -120,7 +90,6 @@ module _ {g : Gateway} {m : Message} {r s : Rows} {i count : ℕ} {o : Offer} (q
       record {
         passes = h.passes;
         unrefused = h.unrefused;
-        turn = omega (arith, q.low);
         few = omega (arith, h.few);
         came = record { rows = h.came.rows ∙ d.0; counts = h.came.counts ∙ d.1 };
       }
@@ -138,7 +107,6 @@ module _ {g : Gateway} {m : Message} {r s : Rows} {i count : ℕ} {o : Offer} (q
       record {
         passes = h.passes;
         unrefused = h.unrefused;
-        turn = omega (arith, q.low);
         few = omega (arith, h.few);
         came = record {
           rows = ap (λ (x : ℕ). rows_of (set s.costs o.place o.cost) (set s.ways o.place o.way) (set s.waiting o.place x)) e

@@ -169,8 +169,7 @@ pub fn hear(
     let top = (number - 1) % p;
     let rest = (number - 1) / p;
     let mut count: usize = 0;
-    let mut i: usize = 0;
-    while i < 2 * p + 1 {
+    for i in 0..2 * p + 1 {
         let candidate = candidate_of(p, number, top, rest, i);
         let kind = candidate.kind;
         let a = candidate.a;
@@ -178,14 +177,12 @@ pub fn hear(
         let word = grids[kind][a][b];
         let offer = offer_of(most, sender, destination, cost, link, word, candidate);
         let place = offer.place;
-        i += 1;
-        if costs[place] <= offer.cost {
-            continue;
+        if offer.cost < costs[place] {
+            costs[place] = offer.cost;
+            ways[place] = offer.way;
+            waiting[place] = bits::with_all(waiting[place], neighbours);
+            count += 1;
         }
-        costs[place] = offer.cost;
-        ways[place] = offer.way;
-        waiting[place] = bits::with_all(waiting[place], neighbours);
-        count += 1;
     }
     Heard::Rows(count)
 }

@@ -10,27 +10,20 @@ pub(crate) fn search(nodes: usize, rows: usize, waiting: &[u32]) -> Found
     ensures { result ≡ first_in waiting.now }
 {
     let mut found = Found::Nowhere;
-    let mut node = 0;
-    'table: while node < nodes {
-        let mut row = 0;
-        while row < rows {
+    'table: for node in 0..nodes {
+        for row in 0..rows {
             let at = node * rows + row;
             let word = waiting[at];
             if word == 0 {
-                row += 1;
                 continue;
             }
-            let mut bit = 0;
-            while bit < 32 {
+            for bit in 0..32 {
                 if bits::has(word, bit) {
                     found = Found::At(at, bit);
                     break 'table;
                 }
-                bit += 1;
             }
-            row += 1; // not reached: a word that is not 0 has a set bit
         }
-        node += 1;
     }
     found
 }

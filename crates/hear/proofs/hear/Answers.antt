@@ -5,13 +5,13 @@ use native.Mathlib.Omega.{arith}
 use Rattle.hear.specs.Answers.{gateway_of, message_of, rows_of}
 use Rattle.hear.specs.Steps.{Turn}
 use Rattle.hear.proofs.Answers.{refuses}
-use Rattle.hear.proofs.Loop.{Heeds, starts, ends, its_turn, Offers, near_4, near_2, next_fits, counts_fit, nearer, inside, inside_ways, inside_waiting, stays, gains, Small, small, offered}
+use Rattle.hear.proofs.Loop.{Heeds, starts, ends, its_turn, Offers, near_4, inside, stays, gains, Small, small, offered}
 use Rattle.hear.proofs.hear.Goals as goal
-use Rattle.hear.proofs.hear.Goals.{After-candidate_of-candidate, After-offer_of-offer, Else-refusal-ne0, In-loop-i}
+use Rattle.hear.proofs.hear.Goals.{After-candidate_of-candidate, After-offer_of-offer, Else-refusal-ne0, In-loop-i, then-offer-costs, else-offer-costs}
 
 -- the candidate in turn, and its offer
 turned : (c : In-loop-i) → let a = c.args in Turn a.p a.number c.loop-i.i
-turned c = its_turn _ _ _ _ _ _ c.loop-i.invariant c.loop-i-test.true
+turned c = its_turn _ _ _ _ _ _ c.loop-i.invariant (omega arith)
 
 parts : (c : After-candidate_of-candidate) → Small c.candidate_of-candidate.result
 parts c =
@@ -27,9 +27,9 @@ offers c =
     let m = message_of a.sender a.destination a.number a.cost a.link in
     record {
       heeds = l.invariant;
-      low = c.loop-i-test.true;
+      low = omega arith;
       is = offered a.p a.most a.neighbours (a.convert ∷ a.wrap ∷ a.unwrap ∷ []) m l.i c.candidate_of-candidate.result c.offer_of-offer.result
-          (its_turn _ _ _ _ _ _ c.loop-i.invariant c.loop-i-test.true) c.candidate_of-candidate.ensures c.offer_of-offer.ensures;
+          (its_turn _ _ _ _ _ _ c.loop-i.invariant (omega arith)) c.candidate_of-candidate.ensures c.offer_of-offer.ensures;
     }
 
 pub returns-then-refusal-ne0 : goal.returns-then-refusal-ne0
@@ -60,11 +60,11 @@ nonzero_div-rest c = (begins (goal.at.nonzero_div-rest c).Else-refusal-ne0).pass
 pub loop-i-init : goal.loop-i-init
 loop-i-init c = begins (goal.at.loop-i-init c).Else-refusal-ne0
 
-pub overflow_mul-p : goal.overflow_mul-p
-overflow_mul-p c = omega (arith, c.loop-i.invariant.passes.numbers_good.few)
+pub overflow_mul-i-end : goal.overflow_mul-i-end
+overflow_mul-i-end c = omega (arith, (begins (goal.at.overflow_mul-i-end c).Else-refusal-ne0).passes.numbers_good.few)
 
-pub overflow_add-p : goal.overflow_add-p
-overflow_add-p c = omega (arith, c.loop-i.invariant.passes.numbers_good.few)
+pub overflow_add-i-end : goal.overflow_add-i-end
+overflow_add-i-end c = omega (arith, (begins (goal.at.overflow_add-i-end c).Else-refusal-ne0).passes.numbers_good.few)
 
 pub candidate_of-candidate-requires : goal.candidate_of-candidate-requires
 candidate_of-candidate-requires c = record { turns = turned (goal.at.candidate_of-candidate-requires c).In-loop-i; tops = refl; rests = refl }
@@ -101,55 +101,20 @@ offer_of-offer-requires c =
       seconds = d.seconds;
     }
 
-pub overflow_add-i : goal.overflow_add-i
-overflow_add-i c = next_fits (offers (goal.at.overflow_add-i c).After-offer_of-offer)
-
 pub offset_bounds-costs-place : goal.offset_bounds-costs-place
 offset_bounds-costs-place c = near_4 (offers (goal.at.offset_bounds-costs-place c).After-offer_of-offer)
 
 pub bounds-costs-place : goal.bounds-costs-place
 bounds-costs-place c = inside (offers (goal.at.bounds-costs-place c).After-offer_of-offer)
 
-pub loop-i-smaller-then-costs-place : goal.loop-i-smaller-then-costs-place
-loop-i-smaller-then-costs-place c = nearer (offers (goal.at.loop-i-smaller-then-costs-place c).After-offer_of-offer)
-
-pub loop-i-preserved-then-costs-place : goal.loop-i-preserved-then-costs-place
-loop-i-preserved-then-costs-place c = stays (offers (goal.at.loop-i-preserved-then-costs-place c).After-offer_of-offer) c.if-costs-place.true
-
-pub offset_bounds-costs-place-in-loop-i : goal.offset_bounds-costs-place-in-loop-i
-offset_bounds-costs-place-in-loop-i c = near_4 (offers (goal.at.offset_bounds-costs-place-in-loop-i c).After-offer_of-offer)
-
-pub bounds-costs-place-in-loop-i : goal.bounds-costs-place-in-loop-i
-bounds-costs-place-in-loop-i c = inside (offers (goal.at.bounds-costs-place-in-loop-i c).After-offer_of-offer)
-
-pub offset_bounds-ways-place : goal.offset_bounds-ways-place
-offset_bounds-ways-place c = near_2 (offers (goal.at.offset_bounds-ways-place c).After-offer_of-offer)
-
-pub bounds-ways-place : goal.bounds-ways-place
-bounds-ways-place c = inside_ways (offers (goal.at.bounds-ways-place c).After-offer_of-offer)
-
-pub offset_bounds-waiting-place : goal.offset_bounds-waiting-place
-offset_bounds-waiting-place c = near_4 (offers (goal.at.offset_bounds-waiting-place c).After-offer_of-offer)
-
-pub bounds-waiting-place : goal.bounds-waiting-place
-bounds-waiting-place c = inside_waiting (offers (goal.at.bounds-waiting-place c).After-offer_of-offer)
-
-pub offset_bounds-waiting-place-in-loop-i : goal.offset_bounds-waiting-place-in-loop-i
-offset_bounds-waiting-place-in-loop-i c = near_4 (offers (goal.at.offset_bounds-waiting-place-in-loop-i c).After-offer_of-offer)
-
-pub bounds-waiting-place-in-loop-i : goal.bounds-waiting-place-in-loop-i
-bounds-waiting-place-in-loop-i c = inside_waiting (offers (goal.at.bounds-waiting-place-in-loop-i c).After-offer_of-offer)
-
-pub loop-i-smaller : goal.loop-i-smaller
-loop-i-smaller c = nearer (offers (goal.at.loop-i-smaller c).After-offer_of-offer)
-
 pub loop-i-preserved : goal.loop-i-preserved
 loop-i-preserved c =
-    gains (offers (goal.at.loop-i-preserved c).After-offer_of-offer) c.with_all.result c.with_all.ensures c.if-costs-place.false
-    (c.slice_known-in-loop-i-1.given c.offer_of-offer.result.place).fits
-
-pub overflow_add-count : goal.overflow_add-count
-overflow_add-count c = counts_fit (offers (goal.at.overflow_add-count c).After-offer_of-offer)
+    let q = offers (goal.at.loop-i-preserved c).After-offer_of-offer in
+    elim c.if-offer-costs.branch [
+      | then-offer-costs w ↦ rw (w.costs-is, w.ways-is, w.waiting-is, w.count-is)
+          (gains q w.with_all.result w.with_all.ensures (omega arith) (c.slice_known-in-loop-i-1.given c.offer_of-offer.result.place).fits)
+      | else-offer-costs w ↦ rw (w.costs-is, w.ways-is, w.waiting-is, w.count-is) (stays q (omega arith))
+    ]
 
 pub returns : goal.returns
-returns c = ends _ _ _ _ _ _ c.loop-i.invariant c.loop-i-test.false
+returns c = ends _ _ _ _ _ _ c.loop-i.invariant (omega arith)

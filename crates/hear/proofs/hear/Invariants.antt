@@ -1,4 +1,3 @@
-use Prim.Native.Nat.{◌+◌, ◌-◌, ◌*◌}
 use mathlib.Core.List.{[]}
 use lib.ListN.{get_or}
 use Rattle.hear.specs.Answers.{gateway_of, message_of, rows_of}
@@ -10,7 +9,3 @@ invariant-loop-i l =
     Heeds (gateway_of l.p l.most l.neighbours (get_or l.grids 0 []) (get_or l.grids 1 []) (get_or l.grids 2 [])) (message_of l.sender l.destination l.number
     l.cost l.link)
     (rows_of l.initial.costs l.initial.ways l.initial.waiting) (rows_of l.costs l.ways l.waiting) l.i l.count
-
-abbrev pub decreases-loop-i : goal.decreases-loop-i
-decreases-loop-i l =
-    2 * l.p + 1 - l.i
