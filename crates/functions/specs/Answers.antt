@@ -19,6 +19,10 @@ number_after (Ok (Some n)) = n
 number_after (Ok None) = 0
 number_after (Err r) = 0
 
+-- a new stack, by its number
+abbrev pub made : ℕ → Result (Option ℕ) Refusal
+made n = Ok (Some n)
+
 -- applied: the number of the stack that f makes of the stack of a number
 abbrev pub answer : ℕ → Outcome → Result (Option ℕ) Refusal
 answer p (becomes s) = Ok (Some (number p s))

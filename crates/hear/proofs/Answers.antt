@@ -8,12 +8,13 @@ use lib.ListN.{length}
 use lib.Dec.{leb, ltb, eqb}
 use mir.Syntax.{w64}
 use mir.Val.{Fits}
-use borrow.Author.Tests.{leb-true, ltb-true, eqb-true, ne_eqb}
+use borrow.Author.Tests.{leb-true, ltb-true, eqb-true}
 use Rattle.lists.specs.Lists.{unless}
 use Rattle.lists.proofs.Tests.{both}
 use Rattle.hear.specs.Hearing.{Gateway, Message, Rows, heard, taken}
 use Rattle.hear.specs.Answers.{good_numbers, good_lengths, ok_hearing, ceiling, refused_by, hear_refusal, rows_after, Hears}
-use Rattle.hear.specs.declared.Heard.{Heard}
+use Rattle.std.specs.Prelude.{Ok, Err}
+use Rattle.refusal.specs.Numbers.{named}
 
 -- ---- the tests as facts
 pub record Numbers (p most sender destination number : ℕ) : Type 0 where
@@ -135,19 +136,16 @@ module _ (g : Gateway) (m : Message) (r : Rows) where
   unfolding hear_refusal
   refusal_same = refl
 
-  pub refuses : (k : ℕ) → k ≡ refused → (k ≡ 0 → ⊥) → Hears g m r (Heard.Refused k) r
+  pub refuses : eqb refused 0 ≡ false → Hears g m r (Err (named refused)) r
   unfolding rows_after
-  refuses k e some =
-      let is : hear_refusal g m r ≡ k = refusal_same ∙ sym e in
-      let no : eqb k 0 ≡ false = ne_eqb k 0 some in
-      record {
-        answers = simp (is, no);
-        costs = simp (is, no);
-        ways = simp (is, no);
-        waiting = simp (is, no);
-      }
+  refuses off = record {
+    answers = simp (refusal_same, off);
+    costs = simp (refusal_same, off);
+    ways = simp (refusal_same, off);
+    waiting = simp (refusal_same, off);
+  }
 
-  pub finished : (count : ℕ) (s : Rows) → refused ≡ 0 → count ≡ taken g m r → s ≡ heard g m r → Hears g m r (Heard.Rows count) s
+  pub finished : (count : ℕ) (s : Rows) → refused ≡ 0 → count ≡ taken g m r → s ≡ heard g m r → Hears g m r (Ok count) s
   unfolding rows_after
   finished count s e counted e' =
       let is : hear_refusal g m r ≡ 0 = refusal_same ∙ e in

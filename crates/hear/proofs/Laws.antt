@@ -15,18 +15,18 @@ use Rattle.lists.proofs.Tables.{length_tabulate, get_or_tabulate, tabulate_same}
 use Rattle.lists.proofs.Counts.{how_many_same}
 use Rattle.relax.specs.Graph.{wins}
 use Rattle.functions.specs.Answers.{moved_of}
-use Rattle.functions.specs.declared.After.TheVariants.{Number}
+use Rattle.functions.specs.Answers.{made}
 use Rattle.hear.specs.Hearing.{Gateway, Message, Rows, leads_by, leader, leader_at, offer, takes, cost_at, way_at, waiting_at, heard, taken}
 use Rattle.hear.proofs.Leaders.{leader_found, leader_only}
 use Rattle.hear.proofs.Below.{rows_eq, takes_says}
 
 module _ (g : Gateway) (m : Message) where
   -- The leader is a function that the gateway has, and it makes the heard stack.
-  pub leader_leads : (n : ℕ) → leader g m n < 192 → (0 < g.words (leader g m n)) × (moved_of g.p g.most (leader g m n) n ≡ Number m.number)
+  pub leader_leads : (n : ℕ) → leader g m n < 192 → (0 < g.words (leader g m n)) × (moved_of g.p g.most (leader g m n) n ≡ made m.number)
   leader_leads n low = ((leader_found g m n low).has, (leader_found g m n low).makes)
 
   -- A function that the gateway has and that makes the heard stack is the leader.
-  pub leader_is : (n f : ℕ) → f < 192 → 0 < g.words f → moved_of g.p g.most f n ≡ Number m.number → leader g m n ≡ f
+  pub leader_is : (n f : ℕ) → f < 192 → 0 < g.words f → moved_of g.p g.most f n ≡ made m.number → leader g m n ≡ f
   leader_is n f low has makes = leader_only g m n f low (record { has = has; makes = makes })
 
   -- The lists keep their length,

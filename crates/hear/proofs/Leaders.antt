@@ -6,21 +6,22 @@ use lib.Dec.{ltb}
 use borrow.Author.Tests.{ltb-true, eqb-true, eq-eqb, lt-ltb}
 use Rattle.lists.proofs.Tests.{both, first_passes, first_only}
 use Rattle.functions.specs.Answers.{moved_of}
-use Rattle.functions.specs.declared.After.{After}
-use Rattle.functions.specs.declared.After.TheVariants.{Number, NotApplicable, Refused}
+use Rattle.refusal.specs.declared.Refusal.{Refusal}
+use Rattle.std.specs.Prelude.{Result, Ok, Err, Option, Some, None}
+use Rattle.functions.specs.Answers.{made}
 use Rattle.hear.specs.Hearing.{Gateway, Message, is_number, leads_by, leader}
 use Rattle.hear.proofs.Sources.{one_function}
 
-is_number_lem : (m : ℕ) (a : After) → is_number m a ≡ true → a ≡ Number m
-is_number_lem m (Number n) e = ap Number (eqb-true n m e)
-is_number_lem m NotApplicable e = absurd (false≢true e)
-is_number_lem m (Refused r) e = absurd (false≢true e)
+is_number_lem : (m : ℕ) (a : Result (Option ℕ) Refusal) → is_number m a ≡ true → a ≡ made m
+is_number_lem m (Ok (Some n)) e = ap made (eqb-true n m e)
+is_number_lem m (Ok None) e = absurd (false≢true e)
+is_number_lem m (Err r) e = absurd (false≢true e)
 
 module _ (g : Gateway) (m : Message) where
   -- the gateway has f, and f makes the heard stack of the stack n
   pub record Leads (n f : ℕ) : Type 0 where
     pub has : 0 < g.words f
-    pub makes : moved_of g.p g.most f n ≡ Number m.number
+    pub makes : moved_of g.p g.most f n ≡ made m.number
 
   pub leads_of : (n f : ℕ) → leads_by g m n f ≡ true → Leads n f
   unfolding leads_by

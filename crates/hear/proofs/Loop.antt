@@ -11,7 +11,7 @@ use Rattle.bits.specs.Bits.{with_all}
 use Rattle.hear.specs.Hearing.{Gateway, Message, Rows}
 use Rattle.hear.specs.Answers.{words_of, gateway_of, rows_of, Hears}
 use Rattle.hear.specs.Steps.{candidate_of, candidate_function, offer_of, Turn}
-use Rattle.hear.specs.declared.Heard.{Heard}
+use Rattle.std.specs.Prelude.{Ok}
 use Rattle.hear.specs.declared.Candidate.{Candidate}
 use Rattle.hear.specs.declared.Offer.{Offer}
 use Rattle.hear.proofs.Candidates.{Candid, candid, word_at_lem}
@@ -27,9 +27,8 @@ module _ (g : Gateway) (m : Message) (r : Rows) where
     pub few : count ≤ i
     pub came : Came g m i count r s
 
-  pub starts : (k : ℕ) → k ≡ refused g m r → k ≡ 0 → Heeds r 0 0
-  starts k is none =
-      let e = sym is ∙ none in
+  pub starts : refused g m r ≡ 0 → Heeds r 0 0
+  starts e =
       let h = passed g m r e in
       record {
         passes = h;
@@ -39,7 +38,7 @@ module _ (g : Gateway) (m : Message) (r : Rows) where
       }
 
   module _ (s : Rows) (i count : ℕ) (h : Heeds s i count) where
-    pub ends : i ≡ 2 * g.p + 1 → Hears g m r (Heard.Rows count) s
+    pub ends : i ≡ 2 * g.p + 1 → Hears g m r (Ok count) s
     ends e =
         let some = h.passes.numbers_good.some in
         finished g m r count s h.unrefused

@@ -1,10 +1,11 @@
 -- What `hear` answers and what it leaves in the rows, for every input: its contract.
-use Rattle.std.specs.Prelude.{ℕ, zero, suc, ◌+◌, ◌*◌, ◌≡◌, List, [], Bool, cond, ◌&&◌, length, get_or, leb, ltb, eqb}
+use Rattle.std.specs.Prelude.{ℕ, zero, suc, ◌+◌, ◌*◌, ◌≡◌, List, [], Bool, cond, ◌&&◌, length, get_or, leb, ltb, eqb, Result, Ok, Err}
 use Rattle.lists.specs.Lists.{unless}
 use Rattle.stacks.specs.Stacks.{one_to}
 use Rattle.functions.specs.Functions.{kind_of, from_of, to_of}
 use Rattle.hear.specs.Hearing.{Gateway, Message, Rows, heard, taken}
-use Rattle.hear.specs.declared.Heard.{Heard}
+use Rattle.refusal.specs.declared.Refusal.{Refusal}
+use Rattle.refusal.specs.Numbers.{refusal_number, answered}
 
 -- one node's three grids as words: row a and column b of the grid of the function's kind
 abbrev pub grid_of_kind : ℕ → List (List ℕ) → List (List ℕ) → List (List ℕ) → List (List ℕ)
@@ -52,24 +53,24 @@ unfoldable pub hear_refusal : Gateway → Message → Rows → ℕ
 hear_refusal g m r =
     refused_by g.p g.most m.sender m.destination m.number m.cost (length r.costs) (length r.ways) (length r.waiting)
 
-abbrev pub hear_answer : Gateway → Message → Rows → Heard
-hear_answer g m r = cond (eqb (hear_refusal g m r) 0) (Heard.Rows (taken g m r)) (Heard.Refused (hear_refusal g m r))
+abbrev pub hear_answer : Gateway → Message → Rows → Result ℕ Refusal
+hear_answer g m r = answered (hear_refusal g m r) (taken g m r)
 
 -- "A refusal returns its number and zeros": of that answer the refusal number, 0 where nothing is refused, and the rows that go with it
-abbrev pub heard_refusal : Heard → ℕ
-heard_refusal (Heard.Rows x) = 0
-heard_refusal (Heard.Refused r) = r
+abbrev pub heard_refusal : Result ℕ Refusal → ℕ
+heard_refusal (Ok x) = 0
+heard_refusal (Err r) = refusal_number r
 
-abbrev pub heard_rows : Heard → ℕ
-heard_rows (Heard.Rows x) = x
-heard_rows (Heard.Refused r) = 0
+abbrev pub heard_rows : Result ℕ Refusal → ℕ
+heard_rows (Ok x) = x
+heard_rows (Err r) = 0
 
 -- the rows afterwards; a refusal leaves them as they were
 unfoldable pub rows_after : Gateway → Message → Rows → Rows
 rows_after g m r = cond (eqb (hear_refusal g m r) 0) (heard g m r) r
 
 -- what `hear` answers, and the three lists as it leaves them
-pub record Hears (g : Gateway) (m : Message) (r : Rows) (answer : Heard) (after : Rows) : Type 0 where
+pub record Hears (g : Gateway) (m : Message) (r : Rows) (answer : Result ℕ Refusal) (after : Rows) : Type 0 where
   pub answers : answer ≡ hear_answer g m r
   pub costs : after.costs ≡ (rows_after g m r).costs
   pub ways : after.ways ≡ (rows_after g m r).ways

@@ -1,9 +1,9 @@
 -- What one gateway does on hearing a message: the part "Deliver" of the specification, from the side of the receiver U.
-use Rattle.std.specs.Prelude.{ℕ, ◌+◌, ◌-◌, ◌*◌, ◌/◌, ◌%◌, List, Bool, false, cond, ◌&&◌, length, get_or, ltb, eqb}
+use Rattle.std.specs.Prelude.{ℕ, ◌+◌, ◌-◌, ◌*◌, ◌/◌, ◌%◌, List, Bool, false, cond, ◌&&◌, length, get_or, ltb, eqb, Result, Ok, Err, Option, Some, None}
 use Rattle.lists.specs.Lists.{tabulate, first_below, how_many}
 use Rattle.relax.specs.Graph.{wins}
 use Rattle.functions.specs.Answers.{moved_of}
-use Rattle.functions.specs.declared.After.{After}
+use Rattle.refusal.specs.declared.Refusal.{Refusal}
 use Rattle.bits.specs.Bits.{with_all}
 
 -- The hearing gateway: p protocols, how many stacks there are, the word of its neighbours, and for each function's number the word
@@ -29,10 +29,10 @@ pub record Rows : Type 0 where
   pub waiting : List ℕ
 
 -- the answer is this number
-abbrev pub is_number : ℕ → After → Bool
-is_number m (After.Number n) = eqb n m
-is_number m After.NotApplicable = false
-is_number m (After.Refused r) = false
+abbrev pub is_number : ℕ → Result (Option ℕ) Refusal → Bool
+is_number m (Ok (Some n)) = eqb n m
+is_number m (Ok None) = false
+is_number m (Err r) = false
 
 module _ (g : Gateway) (m : Message) where
   -- the gateway has f, and f makes the stack that was heard of, H', of the stack with number n

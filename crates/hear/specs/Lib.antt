@@ -2,3 +2,4 @@
 pub mod Hearing
 pub mod Answers
 pub mod Steps
+pub mod Handed

@@ -2,14 +2,32 @@
 #![tactic(auto)]
 
 ghost use Rattle.std.specs.Prelude.{◌≡◌};
-ghost use Rattle.hear.specs.Answers.{gateway_of, message_of, rows_of, refused_by, Hears};
+ghost use Rattle.refusal.specs.Numbers.{answered};
+ghost use Rattle.hear.specs.Answers.{rows_of, refused_by, Hears};
+ghost use Rattle.hear.specs.Handed.{gateway_seen, message_seen};
 ghost use Rattle.hear.specs.Steps.{candidate_of, offer_of, Parted, Priced};
 
-// How many rows took an offer, or the refusal's number.
-#[derive(Clone, Copy)]
-pub enum Heard {
-    Rows(usize),
-    Refused(u32),
+use refusal::Refusal;
+
+/// A gateway: p protocols, `most` stacks, the word of its neighbours, and one grid of words for each kind of function.
+#[derive(Clone, Copy, Drop)]
+pub struct Gateway {
+    pub p: usize,
+    pub most: usize,
+    pub neighbours: u32,
+    pub convert: [[u16; 8]; 8],
+    pub wrap: [[u16; 8]; 8],
+    pub unwrap: [[u16; 8]; 8],
+}
+
+/// A message: who sent it, about which destination and which stack's number, the sender's cost, and what the link back to the sender costs.
+#[derive(Clone, Copy, Debug, PartialEq, Eq, Drop)]
+pub struct Message {
+    pub sender: usize,
+    pub destination: usize,
+    pub number: usize,
+    pub cost: u32,
+    pub link: u16,
 }
 
 // A function that makes the heard stack, by its kind: convert a to b, wrap a in b or unwrap a from b; and the number of the stack that it
@@ -70,17 +88,9 @@ fn candidate_of(p: usize, number: usize, top: usize, rest: usize, i: usize) -> C
 
 // What a candidate with this word offers; cost "no row", which no row takes, where the gateway can't or there is no such stack within the
 // height bound.
-fn offer_of(
-    most: usize,
-    sender: usize,
-    destination: usize,
-    cost: u32,
-    link: u16,
-    word: u16,
-    candidate: Candidate,
-) -> Offer
-    requires { Priced most sender destination cost candidate }
-    ensures { result ≡ offer_of most sender destination cost link word candidate }
+fn offer_of(most: usize, message: Message, word: u16, candidate: Candidate) -> Offer
+    requires { Priced most message.sender message.destination message.cost candidate }
+    ensures { result ≡ offer_of most message.sender message.destination message.cost message.link word candidate }
 {
     if !((0 < word) & (1 <= candidate.source) & (candidate.source <= most)) {
         return Offer {
@@ -91,26 +101,32 @@ fn offer_of(
     }
     let price = word as u32 - 1;
     Offer {
-        place: destination * most + (candidate.source - 1),
-        cost: cost + link as u32 + price,
-        way: (256 * sender + 64 * candidate.kind + 8 * candidate.a + candidate.b) as u16,
+        place: message.destination * most + (candidate.source - 1),
+        cost: message.cost + message.link as u32 + price,
+        way: (256 * message.sender + 64 * candidate.kind + 8 * candidate.a + candidate.b) as u16,
     }
 }
 
-// The number of the refusal; 0 where nothing is refused.
-fn refusal_of(
-    p: usize,
-    most: usize,
-    sender: usize,
-    destination: usize,
-    number: usize,
-    cost: u32,
+// Whether the numbers are in range, the rows enough and the cost no more than the ceiling.
+fn tested(
+    gateway: &Gateway,
+    message: Message,
     costs: usize,
     ways: usize,
     waiting: usize,
-) -> u32
-    ensures { result ≡ refused_by p most sender destination number cost costs ways waiting }
+) -> Result<(), Refusal>
+    ensures { result ≡ answered
+        (refused_by gateway.now.p gateway.now.most message.sender message.destination message.number message.cost costs ways waiting) tt }
 {
+    let p = gateway.p;
+    let most = gateway.most;
+    let Message {
+        sender,
+        destination,
+        number,
+        cost,
+        ..
+    } = message;
     if !((1 <= p)
         & (p <= 8)
         & (most <= 16384)
@@ -119,70 +135,48 @@ fn refusal_of(
         & (1 <= number)
         & (number <= most))
     {
-        return 4;
+        return Err(Refusal::Range);
     }
     if !(((destination + 1) * most <= costs) & (ways == costs) & (waiting == costs)) {
-        return 4;
+        return Err(Refusal::Range);
     }
     if 2147303427 < cost { // the ceiling
-        return 7;
+        return Err(Refusal::Broken);
     }
-    0
+    Ok(())
 }
 
-// What a gateway does on hearing a message: p protocols, `most` stacks, the word of its neighbours and its three grids; then the message, with
-// the cost of the link back to the sender; then its own rows.
+/// What a gateway does on hearing a message: its own rows take the offers that are cheaper. Answers how many did.
 pub fn hear(
-    p: usize,
-    most: usize,
-    neighbours: u32,
-    convert: [[u16; 8]; 8],
-    wrap: [[u16; 8]; 8],
-    unwrap: [[u16; 8]; 8],
-    sender: usize,
-    destination: usize,
-    number: usize,
-    cost: u32,
-    link: u16,
+    gateway: Gateway,
+    message: Message,
     costs: &mut [u32],
     ways: &mut [u16],
     waiting: &mut [u32],
-) -> Heard
-    ensures { Hears (gateway_of p most neighbours convert wrap unwrap) (message_of sender destination number cost link)
-        (rows_of costs.old ways.old waiting.old) result (rows_of costs.new ways.new waiting.new) }
+) -> Result<usize, Refusal>
+    ensures { Hears (gateway_seen gateway) (message_seen message) (rows_of costs.old ways.old waiting.old)
+        result (rows_of costs.new ways.new waiting.new) }
 {
-    let refusal = refusal_of(
-        p,
-        most,
-        sender,
-        destination,
-        number,
-        cost,
-        costs.len(),
-        ways.len(),
-        waiting.len(),
-    );
-    if refusal != 0 {
-        return Heard::Refused(refusal);
-    }
-    let grids = [convert, wrap, unwrap];
-    let top = (number - 1) % p;
-    let rest = (number - 1) / p;
+    tested(&gateway, message, costs.len(), ways.len(), waiting.len())?;
+    let p = gateway.p;
+    let grids = [gateway.convert, gateway.wrap, gateway.unwrap];
+    let top = (message.number - 1) % p;
+    let rest = (message.number - 1) / p;
     let mut count: usize = 0;
     for i in 0..2 * p + 1 {
-        let candidate = candidate_of(p, number, top, rest, i);
+        let candidate = candidate_of(p, message.number, top, rest, i);
         let kind = candidate.kind;
         let a = candidate.a;
         let b = candidate.b;
         let word = grids[kind][a][b];
-        let offer = offer_of(most, sender, destination, cost, link, word, candidate);
+        let offer = offer_of(gateway.most, message, word, candidate);
         let place = offer.place;
         if offer.cost < costs[place] {
             costs[place] = offer.cost;
             ways[place] = offer.way;
-            waiting[place] = bits::with_all(waiting[place], neighbours);
+            waiting[place] = bits::with_all(waiting[place], gateway.neighbours);
             count += 1;
         }
     }
-    Heard::Rows(count)
+    Ok(count)
 }

@@ -2,69 +2,76 @@
 use mathlib.Core.Path.{refl}
 use mathlib.Core.List.{[], ◌∷◌}
 use native.Mathlib.Omega.{arith}
-use Rattle.hear.specs.Answers.{gateway_of, message_of, rows_of}
+use Rattle.hear.specs.Answers.{rows_of}
+use Rattle.hear.specs.Handed.{gateway_seen, message_seen}
 use Rattle.hear.specs.Steps.{Turn}
-use Rattle.hear.proofs.Answers.{refuses}
+use Rattle.std.proofs.Common.{rules, ◌≡◌, Err}
+use Rattle.refusal.proofs.Answers.{answered_ok, answered_err}
+use Rattle.hear.proofs.Answers.{refused, refuses}
 use Rattle.hear.proofs.Loop.{Heeds, starts, ends, its_turn, Offers, near_4, inside, stays, gains, Small, small, offered}
 use Rattle.hear.proofs.hear.Goals as goal
-use Rattle.hear.proofs.hear.Goals.{After-candidate_of-candidate, After-offer_of-offer, Else-refusal-ne0, In-loop-i, then-offer-costs, else-offer-costs}
+use Rattle.hear.proofs.hear.Goals.{After-candidate_of-candidate, After-offer_of-offer, In_ok-tested, In-loop-i, then-offer-costs, else-offer-costs}
 
 -- the candidate in turn, and its offer
-turned : (c : In-loop-i) → let a = c.args in Turn a.p a.number c.loop-i.i
+turned : (c : In-loop-i) → let a = c.args in Turn a.gateway.p a.message.number c.loop-i.i
 turned c = its_turn _ _ _ _ _ _ c.loop-i.invariant (omega arith)
 
 parts : (c : After-candidate_of-candidate) → Small c.candidate_of-candidate.result
 parts c =
     let a = c.args in
-    small a.p a.number c.loop-i.i c.candidate_of-candidate.result (turned c.before) c.candidate_of-candidate.ensures
+    small a.gateway.p a.message.number c.loop-i.i c.candidate_of-candidate.result (turned c.before) c.candidate_of-candidate.ensures
 
 offers : (c : After-offer_of-offer) → let a = c.args in let l = c.loop-i in
-    Offers (gateway_of a.p a.most a.neighbours a.convert a.wrap a.unwrap) (message_of a.sender a.destination a.number a.cost a.link)
+    Offers (gateway_seen a.gateway) (message_seen a.message)
     (rows_of a.costs.now a.ways.now a.waiting.now) (rows_of l.costs l.ways l.waiting) l.i l.count c.offer_of-offer.result
 offers c =
     let l = c.loop-i in
     let a = c.args in
-    let m = message_of a.sender a.destination a.number a.cost a.link in
+    let m = message_seen a.message in
     record {
       heeds = l.invariant;
       low = omega arith;
-      is = offered a.p a.most a.neighbours (a.convert ∷ a.wrap ∷ a.unwrap ∷ []) m l.i c.candidate_of-candidate.result c.offer_of-offer.result
+      is = offered a.gateway.p a.gateway.most a.gateway.neighbours (a.gateway.convert ∷ a.gateway.wrap ∷ a.gateway.unwrap ∷ []) m l.i c.candidate_of-candidate.result c.offer_of-offer.result
           (its_turn _ _ _ _ _ _ c.loop-i.invariant (omega arith)) c.candidate_of-candidate.ensures c.offer_of-offer.ensures;
     }
 
-pub returns-then-refusal-ne0 : goal.returns-then-refusal-ne0
-returns-then-refusal-ne0 c =
+pub returns-in_err-tested : goal.returns-in_err-tested
+returns-in_err-tested c =
     let a = c.args in
-    let g = gateway_of a.p a.most a.neighbours a.convert a.wrap a.unwrap in
-    let m = message_of a.sender a.destination a.number a.cost a.link in
+    let g = gateway_seen a.gateway in
+    let m = message_seen a.message in
     let q = rows_of a.costs.now a.ways.now a.waiting.now in
-    refuses g m q c.refusal_of-refusal.result c.refusal_of-refusal.ensures c.if-refusal-ne0.true
+    let off = answered_err (refused g m q) tt _ c.in_err-tested.ensures in
+    let same : c.from_residual.result ≡ Err c.in_err-tested.field-0.0 = search rules in
+    rw (same, off.1) (refuses g m q off.0)
 
 -- nothing is refused
-begins : (c : Else-refusal-ne0) → let a = c.args in let q = rows_of a.costs.now a.ways.now a.waiting.now in
-    Heeds (gateway_of a.p a.most a.neighbours a.convert a.wrap a.unwrap) (message_of a.sender a.destination a.number a.cost a.link) q q 0 0
-begins c = starts _ _ _ c.refusal_of-refusal.result c.refusal_of-refusal.ensures c.if-refusal-ne0.false
+begins : (c : In_ok-tested) → let a = c.args in let q = rows_of a.costs.now a.ways.now a.waiting.now in
+    Heeds (gateway_seen a.gateway) (message_seen a.message) q q 0 0
+begins c =
+    let a = c.args in
+    starts _ _ _ (answered_ok (refused (gateway_seen a.gateway) (message_seen a.message) (rows_of a.costs.now a.ways.now a.waiting.now)) tt tt c.in_ok-tested.ensures).0
 
 pub overflow_sub-top : goal.overflow_sub-top
-overflow_sub-top c = (begins (goal.at.overflow_sub-top c).Else-refusal-ne0).passes.numbers_good.numbered
+overflow_sub-top c = (begins (goal.at.overflow_sub-top c).In_ok-tested).passes.numbers_good.numbered
 
 pub nonzero_rem-top : goal.nonzero_rem-top
-nonzero_rem-top c = (begins (goal.at.nonzero_rem-top c).Else-refusal-ne0).passes.numbers_good.some
+nonzero_rem-top c = (begins (goal.at.nonzero_rem-top c).In_ok-tested).passes.numbers_good.some
 
 pub overflow_sub-rest : goal.overflow_sub-rest
-overflow_sub-rest c = (begins (goal.at.overflow_sub-rest c).Else-refusal-ne0).passes.numbers_good.numbered
+overflow_sub-rest c = (begins (goal.at.overflow_sub-rest c).In_ok-tested).passes.numbers_good.numbered
 
 pub nonzero_div-rest : goal.nonzero_div-rest
-nonzero_div-rest c = (begins (goal.at.nonzero_div-rest c).Else-refusal-ne0).passes.numbers_good.some
+nonzero_div-rest c = (begins (goal.at.nonzero_div-rest c).In_ok-tested).passes.numbers_good.some
 
 pub loop-i-init : goal.loop-i-init
-loop-i-init c = begins (goal.at.loop-i-init c).Else-refusal-ne0
+loop-i-init c = begins (goal.at.loop-i-init c).In_ok-tested
 
 pub overflow_mul-i-end : goal.overflow_mul-i-end
-overflow_mul-i-end c = omega (arith, (begins (goal.at.overflow_mul-i-end c).Else-refusal-ne0).passes.numbers_good.few)
+overflow_mul-i-end c = omega (arith, (begins (goal.at.overflow_mul-i-end c).In_ok-tested).passes.numbers_good.few)
 
 pub overflow_add-i-end : goal.overflow_add-i-end
-overflow_add-i-end c = omega (arith, (begins (goal.at.overflow_add-i-end c).Else-refusal-ne0).passes.numbers_good.few)
+overflow_add-i-end c = omega (arith, (begins (goal.at.overflow_add-i-end c).In_ok-tested).passes.numbers_good.few)
 
 pub candidate_of-candidate-requires : goal.candidate_of-candidate-requires
 candidate_of-candidate-requires c = record { turns = turned (goal.at.candidate_of-candidate-requires c).In-loop-i; tops = refl; rests = refl }

@@ -1,4 +1,5 @@
 -- `hear::offer_of` meets its contract: no offer, or the one that its candidate makes.
+use native.Mathlib.Omega.{arith}
 use Rattle.hear.proofs.Offers.{Makes, makes, none, made, OfferFits, offer_fits}
 use Rattle.hear.proofs.offer_of.Goals as goal
 use Rattle.hear.proofs.offer_of.Goals.{Else-not-word-candidate}
@@ -10,16 +11,16 @@ passes c = let a = c.args in makes a.most a.word a.candidate c.if-not-word-candi
 pub returns-then-not-word-candidate : goal.returns-then-not-word-candidate
 returns-then-not-word-candidate c =
     let a = c.args in
-    none a.most a.word a.candidate a.sender a.destination a.cost a.link c.if-not-word-candidate.true
+    none a.most a.word a.candidate a.message.sender a.message.destination a.message.cost a.message.link c.if-not-word-candidate.true
 
 pub returns : goal.returns
 returns c =
     let a = c.args in
-    made a.most a.word a.candidate a.sender a.destination a.cost a.link c.if-not-word-candidate.false
+    made a.most a.word a.candidate a.message.sender a.message.destination a.message.cost a.message.link c.if-not-word-candidate.false
 
 -- no number wraps
-fits : (c : Else-not-word-candidate) → let a = c.args in OfferFits a.most a.sender a.destination a.cost a.link a.word a.candidate
-fits c = offer_fits _ _ _ _ _ _ _ c.requires c.ranges.link c.ranges.word
+fits : (c : Else-not-word-candidate) → let a = c.args in OfferFits a.most a.message.sender a.message.destination a.message.cost a.message.link a.word a.candidate
+fits c = offer_fits _ _ _ _ _ _ _ c.requires (omega arith) c.ranges.word
 
 pub overflow_sub-price : goal.overflow_sub-price
 overflow_sub-price c = (passes (goal.at.overflow_sub-price c).Else-not-word-candidate).has
