@@ -4,9 +4,9 @@ use native.Mathlib.Omega.{arith}
 use mathlib.Core.Path.{◌≡◌, refl, sym, ap, ◌∙◌}
 use mathlib.Core.List.{List}
 use mathlib.Core.Bool.{Bool, cond}
-use lib.ListN.{length}
+use lib.ListN.{length, replicate}
 use Rattle.lists.specs.Lists.{tabulate}
-use Rattle.lists.proofs.Tables.{tabulate_same}
+use Rattle.lists.proofs.Tables.{tabulate_same, tabulate_one}
 use Rattle.stacks.proofs.Count.{count_some}
 use Rattle.stacks.proofs.Tests.{sizes}
 use Rattle.words.specs.Words.{ones_in}
@@ -38,10 +38,10 @@ module _ (net : Network) (t : Table) (s : ℕ) (ready : Ready net t s) where
   rows_are = ap (λ (k : ℕ). net.n * (net.n * k)) (sym ready.stacks_are)
 
   -- a list that is filled with one number has no home yet
-  pub none_yet : (l : List ℕ) (long : ℕ) (test : ℕ → Bool) (value : ℕ → ℕ) (other : ℕ) → long ≡ rows_all net → l ≡ tabulate long (λ i. other)
+  pub none_yet : (l : List ℕ) (long : ℕ) (test : ℕ → Bool) (value : ℕ → ℕ) (other : ℕ) → long ≡ rows_all net → l ≡ replicate long other
       → l ≡ set_below (net.n * (net.n * s)) test value other 0
   none_yet l long test value other e d =
-      d ∙ ap (λ (k : ℕ). tabulate k (λ i. other)) (e ∙ rows_are) ∙ below_none (net.n * (net.n * s)) test value other
+      d ∙ tabulate_one long other ∙ ap (λ (k : ℕ). tabulate k (λ i. other)) (e ∙ rows_are) ∙ below_none (net.n * (net.n * s)) test value other
 
   -- and one with all homes set
   all_set : (l : List ℕ) (value : ℕ → ℕ) (other : ℕ)
@@ -55,7 +55,7 @@ module _ (net : Network) (t : Table) (s : ℕ) (ready : Ready net t s) where
 
   module _ (cost way waiting : List ℕ)
       (costs : cost ≡ costs_below net.n net.p s net.functions ((net.n * net.n + net.n) * s))
-      (ways : way ≡ tabulate (length t.way) (λ i. no_way))
+      (ways : way ≡ replicate (length t.way) no_way)
       (waits : waiting ≡ waits_below net.n net.p s net.functions net.links ((net.n * net.n + net.n) * s)) where
     cost_fresh : cost ≡ (fresh net).cost
     unfolding fresh
@@ -63,7 +63,7 @@ module _ (net : Network) (t : Table) (s : ℕ) (ready : Ready net t s) where
 
     way_fresh : way ≡ (fresh net).way
     unfolding fresh
-    way_fresh = ways ∙ ap (λ (k : ℕ). tabulate k (λ i. no_way)) ready.way_long
+    way_fresh = ways ∙ tabulate_one _ no_way ∙ ap (λ (k : ℕ). tabulate k (λ i. no_way)) ready.way_long
 
     waiting_fresh : waiting ≡ (fresh net).waiting
     unfolding fresh

@@ -1,30 +1,7 @@
-// What fresh writes: the same in every row first, and then the row of each node for itself and each protocol that it accepts.
-ghost use Rattle.std.specs.Prelude.{◌≡◌, ◌+◌, ◌*◌, ◌<◌, length};
-ghost use Rattle.lists.specs.Lists.{tabulate};
+// What fresh writes after it wrote the same in every row: the row of each node for itself and each protocol that it accepts.
+ghost use Rattle.std.specs.Prelude.{◌≡◌, ◌+◌, ◌*◌, ◌<◌};
 ghost use Rattle.words.specs.Words.{ones_in};
 ghost use Rattle.fresh.specs.Filling.{Shape, costs_below, waits_below};
-
-// One number everywhere in a list of costs or of waiting words.
-pub(crate) fn fill_words(words: &mut [u32], word: u32)
-    ensures { words.new ≡ tabulate (length words.old) (λ i. word) }
-{
-    let mut i = 0;
-    while i < words.len() {
-        words[i] = word;
-        i += 1;
-    }
-}
-
-// The same in a list of ways.
-pub(crate) fn fill_ways(ways: &mut [u16], way: u16)
-    ensures { ways.new ≡ tabulate (length ways.old) (λ i. way) }
-{
-    let mut i = 0;
-    while i < ways.len() {
-        ways[i] = way;
-        i += 1;
-    }
-}
 
 // The rows of one node for itself: for each protocol that it accepts cost 0 and a message to every neighbour. No other row of the node is a home.
 // Takes and answers how many messages wait, so that nobody need count them again.
@@ -51,14 +28,12 @@ pub(crate) fn node_homes(
     let each = bits::ones(word) as u64;
     let first = (node * n + node) * stacks;
     let mut messages = before;
-    let mut x = 0;
-    while x < p {
+    for x in 0..p {
         if gateways::accepts(n, p, functions, node, x) {
             cost[first + x] = 0;
             waiting[first + x] = word;
             messages += each;
         }
-        x += 1;
     }
     messages
 }
@@ -80,12 +55,10 @@ pub(crate) fn all_homes(
         × (result ≡ ones_in waiting.new) }
 {
     let mut messages: u64 = 0;
-    let mut node = 0;
-    while node < n {
+    for node in 0..n {
         messages = node_homes(
             n, p, stacks, links, functions, node, cost, waiting, messages,
         );
-        node += 1;
     }
     messages
 }

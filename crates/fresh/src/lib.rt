@@ -8,7 +8,7 @@ ghost use Rattle.table.specs.Answers.{fresh_answer, fresh_table};
 
 mod homes;
 
-use homes::{all_homes, fill_ways, fill_words};
+use homes::all_homes;
 use network::Checked;
 use table::Counted;
 use table::ready::ready;
@@ -38,9 +38,9 @@ pub fn fresh(
         waiting.len(),
     ) {
         Checked::Stacks(stacks) => {
-            fill_words(cost, 4294967295); // no row
-            fill_ways(way, 65535); // no way
-            fill_words(waiting, 0);
+            cost.fill(4294967295); // no row
+            way.fill(65535); // no way
+            waiting.fill(0);
             Counted::Messages(all_homes(n, p, stacks, links, functions, cost, waiting))
         }
         Checked::Refused(refusal) => Counted::Refused(refusal),

@@ -2,8 +2,9 @@
 #![tactic(auto)]
 
 ghost use Rattle.std.specs.Prelude.{◌≡◌};
-ghost use Rattle.lists.specs.Lists.{tabulate};
 ghost use Rattle.gateways.specs.Gateways.{word_at, receives_at, grid_of};
+
+use std::array;
 
 // The word of a node's function of a kind on protocols a and b: its price plus 1, and 0 where the node can't or a number is out of range.
 pub fn word_at(
@@ -23,51 +24,21 @@ pub fn word_at(
     network::entry(functions, ((node * 3 + kind) * p + a) * p + b)
 }
 
-// Row a of the grid.
-fn grid_row(n: usize, p: usize, functions: &[u16], node: usize, kind: usize, a: usize) -> [u16; 8]
-    ensures { result ≡ tabulate 8 (λ b. word_at n p functions.now node kind a b) }
-{
-    let mut row = [0u16; 8];
-    let mut b = 0;
-    while b < 8 {
-        row[b] = word_at(n, p, functions, node, kind, a, b);
-        b += 1;
-    }
-    row
-}
-
 // One node's words of one kind, row a and column b; 0 outside the p protocols.
 pub fn grid(n: usize, p: usize, functions: &[u16], node: usize, kind: usize) -> [[u16; 8]; 8]
     ensures { result ≡ grid_of n p functions.now node kind }
 {
-    let mut rows = [[0u16; 8]; 8];
-    let mut a = 0;
-    while a < 8 {
-        rows[a] = grid_row(n, p, functions, node, kind, a);
-        a += 1;
-    }
-    rows
+    array::from_fn(|a| array::from_fn(|b| word_at(n, p, functions, node, kind, a, b)))
 }
 
 // Whether a node accepts protocol x as a destination: it converts x, wraps x, or unwraps something from x.
 pub fn accepts(n: usize, p: usize, functions: &[u16], node: usize, x: usize) -> bool
     ensures { result ≡ receives_at n p functions.now node x }
 {
-    if 8 < p {
-        return false;
-    }
-    let mut y: usize = 0;
-    while y < p {
-        if 0 < word_at(n, p, functions, node, 0, x, y) {
-            return true;
-        }
-        if 0 < word_at(n, p, functions, node, 1, x, y) {
-            return true;
-        }
-        if 0 < word_at(n, p, functions, node, 2, y, x) {
-            return true;
-        }
-        y += 1;
-    }
-    false
+    p <= 8
+        && (0..p).any(|y| {
+            0 < word_at(n, p, functions, node, 0, x, y)
+                || 0 < word_at(n, p, functions, node, 1, x, y)
+                || 0 < word_at(n, p, functions, node, 2, y, x)
+        })
 }

@@ -1,5 +1,6 @@
 -- `fresh::fresh` meets its contract: what each call leaves is what the next one asks for.
 use mathlib.Core.Path.{sym}
+use Rattle.std.proofs.Common.{rules}
 use Rattle.network.specs.Network.{network_of}
 use Rattle.table.specs.Table.{table_of}
 use Rattle.table.proofs.Begins.{Ready, is_ready, is_refused}
@@ -18,15 +19,15 @@ pub all_homes-requires : goal.all_homes-requires
 all_homes-requires c =
     let r = found (goal.at.all_homes-requires c).In-Stacks in (
       shape_of _ _ _ r,
-      none_yet _ _ _ r _ _ _ _ _ r.cost_long c.fill_words.ensures,
-      none_yet _ _ _ r _ _ _ _ _ r.waiting_long c.fill_words-in-Stacks.ensures,
+      none_yet _ _ _ r _ _ _ _ _ r.cost_long (c.fill.ensures.after (λ y e. search rules)),
+      none_yet _ _ _ r _ _ _ _ _ r.waiting_long (c.fill-in-Stacks-2.ensures.after (λ y e. search rules)),
     )
 
 pub returns-in-Stacks : goal.returns-in-Stacks
 returns-in-Stacks c =
     let r = found (goal.at.returns-in-Stacks c).In-Stacks in
     let set = c.all_homes.ensures in
-    let ways = c.fill_ways.ensures in (
+    let ways = c.fill-in-Stacks.ensures.after (λ y e. search rules) in (
       fresh_count _ _ _ r _ _ _ set.0 ways set.1 _ set.2,
       fresh_table_lem _ _ _ r _ _ _ set.0 ways set.1,
     )

@@ -10,7 +10,6 @@ use Rattle.fresh.proofs.homes.all_homes.Goals as goal
 pub loop-node-init : goal.loop-node-init
 loop-node-init c =
     let e : 0 ≡ (0 * c.args.n + 0) * c.args.stacks = omega arith in (
-      omega arith,
       c.requires.1 ∙ ap (costs_below c.args.n c.args.p c.args.stacks c.args.functions.now) e,
       c.requires.2 ∙ ap (waits_below c.args.n c.args.p c.args.stacks c.args.functions.now c.args.links.now) e,
       sym (ap ones_in c.requires.2 ∙ none_waits _ _ _),
@@ -19,19 +18,19 @@ loop-node-init c =
 pub node_homes-messages-requires : goal.node_homes-messages-requires
 node_homes-messages-requires c =
     let l = c.loop-node in
-    (c.requires.0, c.loop-node-test.true, l.invariant.1, l.invariant.2, l.invariant.3)
+    (c.requires.0, c.loop-node-test.true, l.invariant.0, l.invariant.1, l.invariant.2)
 
 pub loop-node-preserved : goal.loop-node-preserved
 loop-node-preserved c =
     let done = c.node_homes-messages.ensures in
-    (omega arith, done.0, done.1, done.2)
+    (done.0, done.1, done.2)
 
 pub returns : goal.returns
 returns c =
     let a = c.args in
     let l = c.loop-node in
     let last : l.node ≡ a.n = omega arith in (
-      l.invariant.1 ∙ ap (λ k. costs_below a.n a.p a.stacks a.functions.now ((k * a.n + k) * a.stacks)) last,
-      l.invariant.2 ∙ ap (λ k. waits_below a.n a.p a.stacks a.functions.now a.links.now ((k * a.n + k) * a.stacks)) last,
-      l.invariant.3,
+      l.invariant.0 ∙ ap (λ k. costs_below a.n a.p a.stacks a.functions.now ((k * a.n + k) * a.stacks)) last,
+      l.invariant.1 ∙ ap (λ k. waits_below a.n a.p a.stacks a.functions.now a.links.now ((k * a.n + k) * a.stacks)) last,
+      l.invariant.2,
     )

@@ -1,4 +1,4 @@
-use Prim.Native.Nat.{◌+◌, ◌-◌, ◌*◌, ◌≤◌}
+use Prim.Native.Nat.{◌+◌, ◌*◌}
 use mathlib.Core.Path.{◌≡◌}
 use Rattle.words.specs.Words.{ones_in}
 use Rattle.fresh.specs.Filling.{costs_below, waits_below}
@@ -6,9 +6,6 @@ use Rattle.fresh.proofs.homes.all_homes.Given as goal
 
 abbrev pub invariant-loop-node : goal.invariant-loop-node
 invariant-loop-node l =
-    (l.node ≤ l.n) × (l.cost ≡ costs_below l.n l.p l.stacks l.functions ((l.node * l.n + l.node) * l.stacks))
+    (l.cost ≡ costs_below l.n l.p l.stacks l.functions ((l.node * l.n + l.node) * l.stacks))
     × (l.waiting ≡ waits_below l.n l.p l.stacks l.functions l.links ((l.node * l.n + l.node) * l.stacks))
     × (l.messages ≡ ones_in l.waiting)
-
-abbrev pub decreases-loop-node : goal.decreases-loop-node
-decreases-loop-node l = l.n - l.node

@@ -30,7 +30,6 @@ overflow_mul-first-2 c =
 pub loop-x-init : goal.loop-x-init
 loop-x-init c =
     let e : (c.args.node * c.args.n + c.args.node) * c.args.stacks ≡ (c.args.node * c.args.n + c.args.node) * c.args.stacks + 0 = omega arith in (
-      omega arith,
       c.requires.2 ∙ ap (costs_below c.args.n c.args.p c.args.stacks c.args.functions.now) e,
       c.requires.3 ∙ ap (waits_below c.args.n c.args.p c.args.stacks c.args.functions.now c.args.links.now) e,
       c.requires.4,
@@ -52,7 +51,7 @@ offset_bounds-cost-first c = omega (arith, row (goal.at.offset_bounds-cost-first
 pub bounds-cost-first : goal.bounds-cost-first
 bounds-cost-first c =
     let l = c.loop-x in
-    omega (arith, row (goal.at.bounds-cost-first c).Then-accepts, below_length _ _ _ _ _ _ l.invariant.1)
+    omega (arith, row (goal.at.bounds-cost-first c).Then-accepts, below_length _ _ _ _ _ _ l.invariant.0)
 
 pub overflow_add-waiting : goal.overflow_add-waiting
 overflow_add-waiting c = omega (arith, row (goal.at.overflow_add-waiting c).Then-accepts)
@@ -63,7 +62,7 @@ offset_bounds-waiting-first c = omega (arith, row (goal.at.offset_bounds-waiting
 pub bounds-waiting-first : goal.bounds-waiting-first
 bounds-waiting-first c =
     let l = c.loop-x in
-    omega (arith, row (goal.at.bounds-waiting-first c).Then-accepts, below_length _ _ _ _ _ _ l.invariant.2)
+    omega (arith, row (goal.at.bounds-waiting-first c).Then-accepts, below_length _ _ _ _ _ _ l.invariant.1)
 
 pub overflow_add-messages : goal.overflow_add-messages
 overflow_add-messages c =
@@ -71,7 +70,7 @@ overflow_add-messages c =
     omega (
       arith,
       messages_fit c.args.n c.args.p c.args.stacks c.requires.0 c.args.functions.now _ c.args.node l.x c.requires.1 c.loop-x-test.true
-          l.waiting l.invariant.2 l.messages c.ones-each.result c.neighbours-word.result c.ones-each.ensures l.invariant.3,
+          l.waiting l.invariant.1 l.messages c.ones-each.result c.neighbours-word.result c.ones-each.ensures l.invariant.2,
     )
 
 pub loop-x-preserved : goal.loop-x-preserved
@@ -83,29 +82,27 @@ loop-x-preserved c =
     let ones = c.ones-each in
     elim c.if-accepts.branch [
       | then-accepts w ↦ (
-        omega arith,
         w.cost-is ∙ turn_set c.args.n c.args.p c.args.stacks c.requires.0 c.args.functions.now (λ i. 0) no_row c.args.node c.requires.1 l.cost l.x 0 low
-            (answer ∙ w.if-accepts.true) refl l.invariant.1,
+            (answer ∙ w.if-accepts.true) refl l.invariant.0,
         w.waiting-is
             ∙ turn_set c.args.n c.args.p c.args.stacks c.requires.0 c.args.functions.now (λ i. neighbours_at c.args.n c.args.links.now
             (i / c.args.stacks / c.args.n)) 0 c.args.node c.requires.1 l.waiting l.x word.result low (answer ∙ w.if-accepts.true)
             (word.ensures ∙ ap (neighbours_at c.args.n c.args.links.now)
             (sym (place_node c.args.n c.args.p c.args.stacks c.requires.0 c.args.node l.x c.requires.1 low)))
-            l.invariant.2,
+            l.invariant.1,
         w.messages-is
-            ∙ messages_more c.args.n c.args.p c.args.stacks c.requires.0 c.args.functions.now _ c.args.node l.x c.requires.1 low l.waiting l.invariant.2
-            l.messages ones.result word.result ones.ensures l.invariant.3
+            ∙ messages_more c.args.n c.args.p c.args.stacks c.requires.0 c.args.functions.now _ c.args.node l.x c.requires.1 low l.waiting l.invariant.1
+            l.messages ones.result word.result ones.ensures l.invariant.2
             ∙ ap ones_in (sym w.waiting-is),
       )
       | else-accepts w ↦ (
-        omega arith,
         w.cost-is ∙ turn_skip c.args.n c.args.p c.args.stacks c.requires.0 c.args.functions.now (λ i. 0) no_row c.args.node c.requires.1 l.cost l.x low
-            (answer ∙ w.if-accepts.false) l.invariant.1,
+            (answer ∙ w.if-accepts.false) l.invariant.0,
         w.waiting-is
             ∙ turn_skip c.args.n c.args.p c.args.stacks c.requires.0 c.args.functions.now (λ i. neighbours_at c.args.n c.args.links.now
             (i / c.args.stacks / c.args.n)) 0 c.args.node c.requires.1 l.waiting l.x low (answer ∙ w.if-accepts.false)
-            l.invariant.2,
-        w.messages-is ∙ l.invariant.3 ∙ ap ones_in (sym w.waiting-is),
+            l.invariant.1,
+        w.messages-is ∙ l.invariant.2 ∙ ap ones_in (sym w.waiting-is),
       )
     ]
 
@@ -113,7 +110,7 @@ pub returns : goal.returns
 returns c =
     let l = c.loop-x in
     let last : l.x ≡ c.args.p = omega arith in (
-      turn_last c.args.n c.args.p c.args.stacks c.requires.0 c.args.functions.now (λ i. 0) no_row c.args.node c.requires.1 l.cost l.x last l.invariant.1,
-      turn_last c.args.n c.args.p c.args.stacks c.requires.0 c.args.functions.now _ 0 c.args.node c.requires.1 l.waiting l.x last l.invariant.2,
-      l.invariant.3,
+      turn_last c.args.n c.args.p c.args.stacks c.requires.0 c.args.functions.now (λ i. 0) no_row c.args.node c.requires.1 l.cost l.x last l.invariant.0,
+      turn_last c.args.n c.args.p c.args.stacks c.requires.0 c.args.functions.now _ 0 c.args.node c.requires.1 l.waiting l.x last l.invariant.1,
+      l.invariant.2,
     )

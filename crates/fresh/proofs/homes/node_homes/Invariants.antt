@@ -1,4 +1,4 @@
-use Prim.Native.Nat.{◌+◌, ◌-◌, ◌≤◌}
+use Prim.Native.Nat.{◌+◌}
 use mathlib.Core.Path.{◌≡◌}
 use Rattle.words.specs.Words.{ones_in}
 use Rattle.fresh.specs.Filling.{costs_below, waits_below}
@@ -6,8 +6,5 @@ use Rattle.fresh.proofs.homes.node_homes.Given as goal
 
 abbrev pub invariant-loop-x : goal.invariant-loop-x
 invariant-loop-x l =
-    (l.x ≤ l.p) × (l.cost ≡ costs_below l.n l.p l.stacks l.functions (l.first + l.x))
+    (l.cost ≡ costs_below l.n l.p l.stacks l.functions (l.first + l.x))
     × (l.waiting ≡ waits_below l.n l.p l.stacks l.functions l.links (l.first + l.x)) × (l.messages ≡ ones_in l.waiting)
-
-abbrev pub decreases-loop-x : goal.decreases-loop-x
-decreases-loop-x l = l.p - l.x
