@@ -103,8 +103,10 @@ module _ (net : Network) (s k : ℕ) (t₀ : Table) where
       subst (Runs (steps net k t₀) (record { done = d; offers = o; refused = r })) (sym (u.table ∙ ends_table net t r turned))
       (ran d o r t (stops net k t₀ d o r t low q.going turned))
 
-  pub ran_out : (d o : ℕ) (t : Table) (flags : List ℕ) → k ≤ d → Keeps d o t flags → Runs (steps net k t₀) (record { done = d; offers = o; refused = 0 }) t
-  ran_out d o t flags high q = ran d o 0 t (all_done net k t₀ d o t high q.going)
+  pub ran_out : (d o : ℕ) (t : Table) (flags : List ℕ) → d ≡ k → Keeps d o t flags → Runs (steps net k t₀) (record { done = k; offers = o; refused = 0 }) t
+  ran_out d o t flags all q =
+      subst (λ (x : ℕ). Runs (steps net k t₀) (record { done = x; offers = o; refused = 0 }) t) all
+      (ran d o 0 t (all_done net k t₀ d o t (omega arith) q.going))
 
 -- ---- the whole call
 pub prepared : (net : Network) (t : Table) (s : ℕ) → Ready net t s → Prepared net s t

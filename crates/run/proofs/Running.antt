@@ -54,7 +54,6 @@ module _ (net : Network) (t : Table) (rest : Table → RunOutcome) where
 -- ---- what a loop over the turns keeps: done deliveries, their offers and the run that is left make the whole run
 module _ (net : Network) (k : ℕ) (t₀ : Table) where
   pub record Going (d o : ℕ) (t : Table) : Type 0 where
-    pub within : d ≤ k
     pub whole : steps net k t₀ ≡ continued d o (steps net (k - d) t)
 
   pub starts : Going 0 0 t₀
@@ -62,7 +61,6 @@ module _ (net : Network) (k : ℕ) (t₀ : Table) where
       let all : k ≡ k - 0 = omega arith in
       let same : steps net k t₀ ≡ steps net (k - 0) t₀ = ap (λ (m : ℕ). steps net m t₀) all in
       record {
-        within = omega arith;
         whole = same ∙ outcome (steps net (k - 0) t₀) (continued 0 0 (steps net (k - 0) t₀)) (omega arith) (omega arith) refl refl;
       }
 
@@ -71,7 +69,6 @@ module _ (net : Network) (k : ℕ) (t₀ : Table) where
 
   pub goes_on : (d o x : ℕ) (t : Table) → d < k → Going d o t → turn_answer net t ≡ Turn.Offers x → Going (d + 1) (o + x) (turn_table net t)
   goes_on d o x t low g e = record {
-    within = omega arith;
     whole =
         g.whole
         ∙ ap (continued d o) (ap (λ (m : ℕ). steps net m t) (more_left d low) ∙ offers_at net t (steps net (k - (d + 1))) (first_in t.waiting) x e)

@@ -15,9 +15,8 @@ fn search_node(n: usize, stacks: usize, node: usize, flags: &mut [u32], waiting:
     while left != 0 {
         let destination = bits::lowest(left);
         let from = (node * n + destination) * stacks;
-        match words::first_in(waiting, from, from + stacks) {
-            Found::At(at, bit) => return Found::At(at, bit),
-            Found::Nowhere => {}
+        if let Found::At(at, bit) = words::first_in(waiting, from, from + stacks) {
+            return Found::At(at, bit);
         }
         left = bits::without(left, destination);
         flags[node] = left;
@@ -31,13 +30,10 @@ pub(crate) fn search_flagged(n: usize, stacks: usize, flags: &mut [u32], waiting
     ensures value { result ≡ first_in waiting.now }
     ensures flagged { Flagged n stacks flags.new waiting.now }
 {
-    let mut node = 0;
-    while node < n {
-        match search_node(n, stacks, node, flags, waiting) {
-            Found::At(at, bit) => return Found::At(at, bit),
-            Found::Nowhere => {}
+    for node in 0..n {
+        if let Found::At(at, bit) = search_node(n, stacks, node, flags, waiting) {
+            return Found::At(at, bit);
         }
-        node += 1;
     }
     Found::Nowhere
 }

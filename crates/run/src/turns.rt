@@ -42,13 +42,7 @@ fn all_neighbours(n: usize, links: &[u16]) -> [u32; 32]
     requires { n ≤ 32 }
     ensures { (u : ℕ) → u < n → get_or result u 0 ≡ neighbours_at n links.now u }
 {
-    let mut words = [0u32; 32];
-    let mut node: usize = 0;
-    while node < n {
-        words[node] = network::neighbours(n, links, node);
-        node += 1;
-    }
-    words
+    std::array::from_fn(|node| network::neighbours(n, links, node))
 }
 
 // The grids of one kind of every node, likewise.
@@ -56,13 +50,12 @@ fn all_grids(n: usize, p: usize, functions: &[u16], kind: usize) -> [[[u16; 8]; 
     requires { n ≤ 32 }
     ensures { (u : ℕ) → u < n → get_or result u [] ≡ grid_of n p functions.now u kind }
 {
-    let mut grids = [[[0u16; 8]; 8]; 32];
-    let mut node: usize = 0;
-    while node < n {
-        grids[node] = gateways::grid(n, p, functions, node, kind);
-        node += 1;
-    }
-    grids
+    // The closure states its contract: of one that returns an array of arrays the check learns none by itself.
+    std::array::from_fn(
+        |node: usize| -> [[u16; 8]; 8]
+            ensures { result ≡ grid_of n p functions.entry.now node kind }
+        { gateways::grid(n, p, functions, node, kind) },
+    )
 }
 
 // First waiting and then deliver, once. The flags say which blocks of rows may hold a message. The contract holds for every network with these links
@@ -122,10 +115,8 @@ fn all_flags(n: usize) -> u32
     ensures { result ≡ word_of n (λ (d : ℕ). true) }
 {
     let mut word: u32 = 0;
-    let mut d: usize = 0;
-    while d < n {
+    for d in 0..n {
         word = bits::with_one(word, d);
-        d += 1;
     }
     word
 }
@@ -152,9 +143,8 @@ pub(crate) fn take_turns(
     let wraps = all_grids(n, p, functions, 1);
     let unwraps = all_grids(n, p, functions, 2);
     let mut flags = [all_flags(n); 32];
-    let mut done: u32 = 0;
     let mut offers: u64 = 0;
-    while done < limit {
+    for done in 0..limit {
         match take_turn(
             n,
             p,
@@ -180,10 +170,9 @@ pub(crate) fn take_turns(
                 };
             }
         }
-        done += 1;
     }
     Ran {
-        done,
+        done: limit,
         offers,
         refused: 0,
     }

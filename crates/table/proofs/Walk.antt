@@ -3,7 +3,7 @@ use mathlib.Core.Path.{◌≡◌, sym, ap, ◌∙◌}
 use mathlib.Core.Bool.{true, false}
 use mathlib.Core.List.{List}
 use Prim.Native.Nat.{ℕ, ◌+◌, ◌*◌, ◌^◌, ◌≤◌, ◌<◌}
-use native.Mathlib.Nat.{add-zero, zero-mul, suc-mul}
+use native.Mathlib.Nat.{zero-mul, suc-mul}
 use native.Mathlib.Numerals.{add-one}
 use native.Mathlib.Decide.{dec_lt}
 use native.Mathlib.Omega.{arith}
@@ -17,12 +17,9 @@ use Rattle.words.proofs.Answers.{first_whole}
 use Rattle.words.proofs.Search.{first_here, first_next, first_end}
 use Rattle.table.proofs.Firsts.{Ahead}
 
--- the walk begins in front, and a node's rows begin at its first
+-- the walk begins in front
 pub at_start : (ws : List ℕ) (rows : ℕ) → Ahead ws (0 * rows)
 at_start ws rows = ap (λ (i : ℕ). first_between i (length ws) ws) (zero-mul rows) ∙ first_whole ws
-
-pub at_row : (ws : List ℕ) (rows node : ℕ) → Ahead ws (node * rows) → Ahead ws (node * rows + 0)
-at_row ws rows node ahead = ap (λ (i : ℕ). first_between i (length ws) ws) (add-zero (node * rows)) ∙ ahead
 
 -- the first bit that is set is the lowest
 lowest_is : (w v : ℕ) → 0 < w → w < 2 ^ 32 → ((k : ℕ) → k < v → has w k ≡ false) → has w v ≡ true → lowest w ≡ v

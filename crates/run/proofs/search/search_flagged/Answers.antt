@@ -2,7 +2,6 @@
 -- of the whole search; and the flags are right.
 use Prim.Native.Nat.{◌+◌, ◌*◌, ◌≤◌}
 use native.Mathlib.Omega.{arith}
-use borrow.Author.Rules.{rules}
 use lib.ListN.{length}
 use Rattle.table.proofs.Places.{block_fits}
 use Rattle.table.proofs.Firsts.{part_found, part_passed}
@@ -16,16 +15,12 @@ inside c =
     omega (arith, c.requires.1, block_fits (a.n * a.stacks) c.loop-node.node a.n c.loop-node-test.true)
 
 pub loop-node-init : goal.loop-node-init
-loop-node-init c = (search rules, at_start _ _, c.requires.2)
-
-pub search_node-requires : goal.search_node-requires
-search_node-requires c =
-    (search rules, c.requires.0, c.requires.1, c.loop-node.invariant.2)
+loop-node-init c = (at_start _ _, c.requires.2)
 
 pub returns-in-At : goal.returns-in-At
 returns-in-At c = record {
   value = part_found _ (c.loop-node.node * (c.args.n * c.args.stacks)) ((c.loop-node.node * (c.args.n * c.args.stacks)) + c.args.n * c.args.stacks)
-      c.loop-node.invariant.1 (inside (goal.at.returns-in-At c).In-loop-node) _ _ _ c.search_node.ensures.value c.in-At.is;
+      c.loop-node.invariant.0 (inside (goal.at.returns-in-At c).In-loop-node) _ _ _ c.search_node.ensures.value c.in-At.is;
   flagged = c.search_node.ensures.flagged;
 }
 
@@ -33,10 +28,10 @@ pub loop-node-preserved : goal.loop-node-preserved
 loop-node-preserved c =
     let found = c.search_node.ensures.value in
     let behind = part_passed _ (c.loop-node.node * (c.args.n * c.args.stacks)) ((c.loop-node.node * (c.args.n * c.args.stacks)) + c.args.n * c.args.stacks)
-    c.loop-node.invariant.1 (inside (goal.at.loop-node-preserved c).In-loop-node) _ found c.in-Nowhere.is (omega arith) in
-    (search rules, node_passed _ _ c.loop-node.node _ (omega arith) (omega arith) behind, c.search_node.ensures.flagged)
+    c.loop-node.invariant.0 (inside (goal.at.loop-node-preserved c).In-loop-node) _ found c.in_default.is (omega arith) in
+    (node_passed _ _ c.loop-node.node _ (omega arith) (omega arith) behind, c.search_node.ensures.flagged)
 
 pub returns : goal.returns
 returns c =
     let l = c.loop-node in
-    record { value = all_passed _ c.args.n _ l.node c.requires.1 l.invariant.0 c.loop-node-test.false l.invariant.1; flagged = l.invariant.2 }
+    record { value = all_passed _ c.args.n _ l.node c.requires.1 l.auto.node-end c.loop-node-test.false l.invariant.0; flagged = l.invariant.1 }

@@ -76,7 +76,7 @@ loop-left-preserved c =
     let inside : a.node < length c.loop-left.flags = omega (arith, c.loop-left.invariant.1.long, c.requires.3.fits, c.requires.0) in (
       sym (get_or-set_same c.loop-left.flags a.node c.without-left.result 0 inside),
       subst (λ (w : ℕ). Flagged a.n a.stacks (set c.loop-left.flags a.node w) a.waiting.now) (sym (cleared (goal.at.loop-left-preserved c).After-without-left))
-          (block_empty (at_flag (goal.at.loop-left-preserved c).After-lowest-destination) _ c.first_in.ensures c.in-Nowhere.is),
+          (block_empty (at_flag (goal.at.loop-left-preserved c).After-lowest-destination) _ c.first_in.ensures c.in_default.is),
     )
 
 pub returns : goal.returns

@@ -2,7 +2,6 @@
 use Prim.Native.Nat.{ℕ}
 use mathlib.Core.Path.{refl, sym, ap, ◌∙◌}
 use mathlib.Core.Bool.{true}
-use native.Mathlib.Nat.{le_antisymm}
 use native.Mathlib.Numerals.{add-one}
 use native.Mathlib.Omega.{arith}
 use Rattle.bits.specs.Bits.{word_of, with_one}
@@ -11,17 +10,12 @@ use Rattle.run.proofs.turns.all_flags.Goals as goal
 
 pub loop-d-init : goal.loop-d-init
 unfolding word_of
-loop-d-init c = (omega arith, refl)
+loop-d-init c = refl
 
 pub loop-d-preserved : goal.loop-d-preserved
 loop-d-preserved c =
-    let l = c.loop-d in (
-      omega arith,
-      c.with_one-word.ensures
-          ∙ ap (λ (w : ℕ). with_one w l.d) l.invariant.1
-          ∙ sym (word_of_set l.d (λ (x : ℕ). true) (omega arith) refl)
-          ∙ ap (λ (k : ℕ). word_of k (λ (x : ℕ). true)) (sym (add-one l.d)),
-    )
-
-pub returns : goal.returns
-returns c = c.loop-d.invariant.1 ∙ ap (λ (k : ℕ). word_of k (λ (x : ℕ). true)) (le_antisymm c.loop-d.invariant.0 c.loop-d-test.false)
+    let l = c.loop-d in
+    c.with_one-word.ensures
+    ∙ ap (λ (w : ℕ). with_one w l.d) l.invariant
+    ∙ sym (word_of_set l.d (λ (x : ℕ). true) (omega arith) refl)
+    ∙ ap (λ (k : ℕ). word_of k (λ (x : ℕ). true)) (sym (add-one l.d))

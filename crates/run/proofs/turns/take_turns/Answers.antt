@@ -1,6 +1,6 @@
 -- `run::turns::take_turns` meets its contract: each turn is a turn of the run, and the flags stay right.
 use Prim.Native.Nat.{◌+◌, ◌≤◌}
-use mathlib.Core.Path.{refl, sym}
+use mathlib.Core.Path.{refl}
 use native.Mathlib.Omega.{arith}
 use Rattle.network.specs.Network.{network_of}
 use Rattle.network.proofs.Laws.{valid}
@@ -39,7 +39,7 @@ next c =
     keeps_on (network_of a.n a.p a.h a.links.now a.functions.now) a.stacks a.limit (table_of a.cost.now a.way.now a.waiting.now) c.loop-done.done
     c.loop-done.offers c.in-Offers.taken (table_of c.loop-done.cost c.loop-done.way c.loop-done.waiting)
     (table_of c.take_turn.new.cost c.take_turn.new.way c.take_turn.new.waiting) c.loop-done.flags x.new.flags x.result
-    c.requires.network c.loop-done-test.true c.loop-done.invariant (let a = c.args in c.take_turn.ensures a.h a.functions.now
+    c.requires.network (omega arith) c.loop-done.invariant (let a = c.args in c.take_turn.ensures a.h a.functions.now
     (still_prepared (network_of a.n a.p a.h a.links.now a.functions.now) a.stacks a.limit (table_of a.cost.now a.way.now a.waiting.now) c.loop-done.done
     c.loop-done.offers (table_of c.loop-done.cost c.loop-done.way c.loop-done.waiting) c.loop-done.flags c.requires c.loop-done.invariant)
     (record {
@@ -78,9 +78,6 @@ loop-done-init c =
     (flags_set a.n a.stacks c.all_flags-flags.result _ a.waiting.now w.few w.nodes c.all_flags-flags.ensures refl
     (countable (network_of a.n a.p a.h a.links.now a.functions.now) a.stacks (table_of a.cost.now a.way.now a.waiting.now) c.requires).long)
 
-pub slice_bounds-take_turn-end : goal.slice_bounds-take_turn-end
-slice_bounds-take_turn-end c = sym c.loop-done.invariant.flagged.long
-
 pub take_turn-requires : goal.take_turn-requires
 take_turn-requires c =
     let a = c.args in
@@ -94,7 +91,7 @@ take_turn-requires c =
     }
 
 pub overflow_add-offers : goal.overflow_add-offers
-overflow_add-offers c = omega (arith, (next (goal.at.overflow_add-offers c).In-Offers).few, c.loop-done-test.true, c.ranges.limit)
+overflow_add-offers c = omega (arith, (next (goal.at.overflow_add-offers c).In-Offers).few)
 
 pub returns-in-Ends : goal.returns-in-Ends
 returns-in-Ends c =
@@ -103,13 +100,7 @@ returns-in-Ends c =
     ran_ends (network_of a.n a.p a.h a.links.now a.functions.now) a.stacks a.limit (table_of a.cost.now a.way.now a.waiting.now) c.loop-done.done
     c.loop-done.offers c.in-Ends.refusal (table_of c.loop-done.cost c.loop-done.way c.loop-done.waiting)
     (table_of c.take_turn.new.cost c.take_turn.new.way c.take_turn.new.waiting) c.loop-done.flags x.new.flags x.result
-    c.loop-done-test.true c.loop-done.invariant (turned (goal.at.returns-in-Ends c).After-take_turn) c.in-Ends.is
-
-pub overflow_add-done : goal.overflow_add-done
-overflow_add-done c = omega (arith, c.loop-done-test.true, c.ranges.limit)
-
-pub loop-done-smaller : goal.loop-done-smaller
-loop-done-smaller c = omega (arith, c.loop-done-test.true)
+    (omega arith) c.loop-done.invariant (turned (goal.at.returns-in-Ends c).After-take_turn) c.in-Ends.is
 
 pub loop-done-preserved : goal.loop-done-preserved
 loop-done-preserved c = next (goal.at.loop-done-preserved c).In-Offers
@@ -118,4 +109,4 @@ pub returns : goal.returns
 returns c =
     let a = c.args in
     ran_out (network_of a.n a.p a.h a.links.now a.functions.now) a.stacks a.limit (table_of a.cost.now a.way.now a.waiting.now) c.loop-done.done
-    c.loop-done.offers (table_of c.loop-done.cost c.loop-done.way c.loop-done.waiting) c.loop-done.flags c.loop-done-test.false c.loop-done.invariant
+    c.loop-done.offers (table_of c.loop-done.cost c.loop-done.way c.loop-done.waiting) c.loop-done.flags (omega arith) c.loop-done.invariant
