@@ -1,5 +1,5 @@
 -- `words::ones_in` meets its contract: the sum of the words' set bits, as the library sums a list.
-use mathlib.Core.Path.{◌≡◌, refl, sym, ◌∙◌}
+use mathlib.Core.Path.{◌≡◌, refl, sym, ap, ◌∙◌}
 use mathlib.Core.List.{List}
 use Prim.Native.Nat.{ℕ}
 use borrow.Author.Rules.{rules}
@@ -20,5 +20,5 @@ returns-then-words-gt524288 c = sym (count_many c.args.words.now c.if-words-gt52
 pub returns : goal.returns
 returns c =
     let words = c.args.words.now in
-    let total : c.sum.result ≡ sum_by ones_of words = search rules in
-    total ∙ sym (is_sum words) ∙ sym (count_few words c.if-words-gt524288.false)
+    let total : c.sum.result ≡ sum_by ones_of c.iter.result.rest.now = search rules in
+    total ∙ ap (sum_by ones_of) c.iter.ensures.rest ∙ sym (is_sum words) ∙ sym (count_few words c.if-words-gt524288.false)
