@@ -6,18 +6,21 @@ use Rattle.std.proofs.Common.{rules}
 use Rattle.std.proofs.lemmas.Iterator.{YieldsList-from_range}
 use Rattle.std.proofs.lemmas.Iterator.Search.{any_from_yields_List}
 use Rattle.lists.proofs.Ranges.{any_some}
+use Rattle.gateways.specs.Gateways.{accepts}
 use Rattle.gateways.proofs.Accepting.{receives_by, received, many_protocols}
 use Rattle.gateways.proofs.accepts.Goals as goal
 
-pub returns-then-p-le8 : goal.returns-then-p-le8
-returns-then-p-le8 c =
+pub returns-then-net-le8 : goal.returns-then-net-le8
+unfolding accepts
+returns-then-net-le8 c =
     let a = c.args in
-    any_from_yields_List (receives_by a.n a.p a.functions.now a.node a.x) _ _ _ c.any.ensures.ran (YieldsList-from_range 0 a.p a.p refl (omega arith))
+    any_from_yields_List (receives_by a.net.now.n a.net.now.p a.net.now.functions.now a.node a.x) _ _ _ c.any.ensures.ran (YieldsList-from_range 0 a.net.now.p a.net.now.p refl (omega arith))
     (λ x b q k. search rules)
-    ∙ any_some a.p _
-    ∙ received a.n a.p a.functions.now a.node a.x
+    ∙ any_some a.net.now.p _
+    ∙ received a.net.now.n a.net.now.p a.net.now.functions.now a.node a.x
 
-pub returns-else-p-le8 : goal.returns-else-p-le8
-returns-else-p-le8 c =
+pub returns-else-net-le8 : goal.returns-else-net-le8
+unfolding accepts
+returns-else-net-le8 c =
     let a = c.args in
-    lt-leb a.p 8 c.if-p-le8.false ∙ sym (many_protocols a.n a.p a.functions.now a.node a.x c.if-p-le8.false)
+    lt-leb a.net.now.p 8 c.if-net-le8.false ∙ sym (many_protocols a.net.now.n a.net.now.p a.net.now.functions.now a.node a.x c.if-net-le8.false)

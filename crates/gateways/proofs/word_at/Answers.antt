@@ -11,18 +11,18 @@ use Rattle.gateways.proofs.word_at.Goals.{Else-not-n-node}
 pub returns-then-not-n-node : goal.returns-then-not-n-node
 returns-then-not-n-node c =
     let a = c.args in
-    sym (word_none a.n a.p a.functions.now a.node a.kind a.a a.b c.if-not-n-node.true)
+    sym (word_none a.net.now.n a.net.now.p a.net.now.functions.now a.node a.kind a.a a.b c.if-not-n-node.true)
 
 -- the place and its row are in range, where the test is passed
-place : (c : Else-not-n-node) → let a = c.args in Placed a.n a.p a.node a.kind a.a a.b
-place c = let a = c.args in place_says a.n a.p a.node a.kind a.a a.b c.if-not-n-node.false
+place : (c : Else-not-n-node) → let a = c.args in Placed a.net.now.n a.net.now.p a.node a.kind a.a a.b
+place c = let a = c.args in place_says a.net.now.n a.net.now.p a.node a.kind a.a a.b c.if-not-n-node.false
 
-row : (c : Else-not-n-node) → let a = c.args in RowFits a.node a.kind a.p a.a
+row : (c : Else-not-n-node) → let a = c.args in RowFits a.node a.kind a.net.now.p a.a
 row c =
     let a = c.args in
     let z = place c in
-    let u = node_is a.n a.node z.node in
-    row_fits a.n a.node a.kind a.p a.a u.1 u.0 z.few (omega (arith, z.kinds)) z.from
+    let u = node_is a.net.now.n a.node z.node in
+    row_fits a.net.now.n a.node a.kind a.net.now.p a.a u.1 u.0 z.few (omega (arith, z.kinds)) z.from
 
 pub overflow_mul-node : goal.overflow_mul-node
 overflow_mul-node c = (row (goal.at.overflow_mul-node c).Else-not-n-node).grids
@@ -47,4 +47,4 @@ overflow_add-node-3 c = let z = place (goal.at.overflow_add-node-3 c).Else-not-n
 pub returns : goal.returns
 returns c =
     let a = c.args in
-    c.entry.ensures ∙ sym (word_there a.n a.p a.functions.now a.node a.kind a.a a.b c.if-not-n-node.false)
+    c.entry.ensures ∙ sym (word_there a.net.now.n a.net.now.p a.net.now.functions.now a.node a.kind a.a a.b c.if-not-n-node.false)
