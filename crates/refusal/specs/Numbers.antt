@@ -42,3 +42,7 @@ named k =
 -- what a call answers that is refused with this number, 0 where it is not
 abbrev pub answered : {A : Type 0} → ℕ → A → Result A Refusal
 answered r x = cond (eqb r 0) (Ok x) (Err (named r))
+
+-- the refusal that an answer tells of beside other numbers: none for 0
+abbrev pub refused_with : ℕ → Option Refusal
+refused_with r = cond (eqb r 0) None (Some (named r))

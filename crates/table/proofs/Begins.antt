@@ -3,22 +3,25 @@ use Prim.Native.Nat.{ℕ, ◌*◌, ◌≤◌}
 use native.Mathlib.Nat.{mul-le-mul, mul-le-mul_right}
 use native.Mathlib.Omega.{arith}
 use mathlib.Core.Path.{◌≡◌, refl, sym, ap, ◌∙◌}
-use mathlib.Core.Bool.{Bool, true, false, cond, ◌&&◌}
+use mathlib.Core.Bool.{Bool, true, false, cond, ◌&&◌, true≢false}
 use lib.ListN.{length}
 use lib.Dec.{eqb}
-use borrow.Author.Tests.{eqb-true, eqb-false, eq-eqb, ne_eqb}
+use borrow.Author.Tests.{eqb-true, eq-eqb, ne_eqb}
 use Rattle.lists.proofs.Tests.{both}
 use Rattle.stacks.proofs.Tests.{sizes}
 use Rattle.stacks.proofs.Count.{count_some}
 use Rattle.network.specs.Network.{Network, stacks, refusal_of}
 use Rattle.network.specs.Answers.{checked_of}
-use Rattle.network.specs.declared.Checked.{Checked}
+use Rattle.std.specs.Prelude.{Result, Ok, Err}
+use Rattle.refusal.specs.declared.Refusal.{Refusal}
+use Rattle.refusal.specs.Numbers.{named}
+use Rattle.refusal.proofs.Answers.{answered_ok, answered_err}
 use Rattle.network.proofs.Laws.{checked_valid, checked_refused, valid}
 use Rattle.table.specs.Table.{Table, Sized, rows_each, rows_all}
 use Rattle.table.specs.Answers.{ok_lengths, refusal_by, refusal, ready_of}
 
 -- ---- at each test of `ready`
-module _ (net : Network) (costs ways waits s : ℕ) (found : checked_of net ≡ Checked.Stacks s) where
+module _ (net : Network) (costs ways waits s : ℕ) (found : checked_of net ≡ Ok s) where
   right : refusal_of net ≡ 0
   right = (checked_valid net s found).0
 
@@ -33,19 +36,19 @@ module _ (net : Network) (costs ways waits s : ℕ) (found : checked_of net ≡ 
   unfolding ok_lengths
   lengths_are = ap (λ (k : ℕ). eqb costs k && (eqb ways k && eqb waits k)) rows_are
 
-  pub not_long : long ≡ false → Checked.Refused 3 ≡ ready_of net costs ways waits
+  pub not_long : long ≡ false → Err Refusal.Table ≡ ready_of net costs ways waits
   unfolding refusal_by
   not_long short = simp (eq-eqb (refusal_of net) 0 right, sym lengths_are ∙ short)
 
-  pub all_long : long ≡ true → Checked.Stacks s ≡ ready_of net costs ways waits
+  pub all_long : long ≡ true → Ok s ≡ ready_of net costs ways waits
   unfolding refusal_by
-  all_long good = simp (eq-eqb (refusal_of net) 0 right, sym lengths_are ∙ good) (ap Checked.Stacks (checked_valid net s found).1)
+  all_long good = simp (eq-eqb (refusal_of net) 0 right, sym lengths_are ∙ good) (ap Ok (checked_valid net s found).1)
 
-pub not_ready : (net : Network) (costs ways waits r : ℕ) → checked_of net ≡ Checked.Refused r → checked_of net ≡ ready_of net costs ways waits
+pub not_ready : (net : Network) (costs ways waits : ℕ) (r : Refusal) → checked_of net ≡ Err r → ◌≡◌ {A = Result ℕ Refusal} (Err r) (ready_of net costs ways waits)
 unfolding refusal_by
 not_ready net costs ways waits r found =
     let a = checked_refused net r found in
-    found ∙ simp (ne_eqb (refusal_of net) 0 (λ (e : refusal_of net ≡ 0). omega (arith, a.0, a.1))) (ap Checked.Refused (sym a.0))
+    simp (ne_eqb (refusal_of net) 0 (λ (e : refusal_of net ≡ 0). omega (arith, e, a.1))) (ap Err a.0)
 
 -- n, S and the rows are small enough to be worked out
 pub record Small (net : Network) (s : ℕ) : Type 0 where
@@ -53,7 +56,7 @@ pub record Small (net : Network) (s : ℕ) : Type 0 where
   pub each : net.n * s ≤ 16384
   pub all : net.n * (net.n * s) ≤ 524288
 
-pub small : (net : Network) (s : ℕ) → checked_of net ≡ Checked.Stacks s → Small net s
+pub small : (net : Network) (s : ℕ) → checked_of net ≡ Ok s → Small net s
 small net s found =
     let w = valid net (checked_valid net s found).0 in
     let e = (checked_valid net s found).1 in
@@ -69,40 +72,34 @@ pub record Ready (net : Network) (t : Table) (s : ℕ) : Type 0 where
   pub way_long : length t.way ≡ rows_all net
   pub waiting_long : length t.waiting ≡ rows_all net
 
-pub is_ready : (net : Network) (t : Table) (s : ℕ) → ready_of net (length t.cost) (length t.way) (length t.waiting) ≡ Checked.Stacks s → Ready net t s
+pub is_ready : (net : Network) (t : Table) (s : ℕ) → ready_of net (length t.cost) (length t.way) (length t.waiting) ≡ Ok s → Ready net t s
 unfolding ok_lengths refusal refusal_by
-is_ready net t s e = go (eqb (refusal_of net) 0) refl (ok_lengths net (length t.cost) (length t.way) (length t.waiting)) refl e
+is_ready net t s e =
+    let d = answered_ok (refusal net t) (stacks net) s (sym e) in
+    go (eqb (refusal_of net) 0) refl (ok_lengths net (length t.cost) (length t.way) (length t.waiting)) refl d.0 d.1
   where
     go : (a : Bool) → eqb (refusal_of net) 0 ≡ a → (b : Bool) → ok_lengths net (length t.cost) (length t.way) (length t.waiting) ≡ b
-        → cond (eqb (cond a (cond b 0 3) (refusal_of net)) 0) (Checked.Stacks (stacks net)) (Checked.Refused (cond a (cond b 0 3) (refusal_of net)))
-        ≡ Checked.Stacks s → Ready net t s
-    go true u true v d =
+        → cond a (cond b 0 3) (refusal_of net) ≡ 0 → s ≡ stacks net → Ready net t s
+    go true u true v d is =
         let l = both (eqb (length t.cost) (rows_all net)) (eqb (length t.way) (rows_all net) && eqb (length t.waiting) (rows_all net)) v in
         let m = both (eqb (length t.way) (rows_all net)) (eqb (length t.waiting) (rows_all net)) l.1 in
         record {
           network = eqb-true (refusal_of net) 0 u;
           nothing = simp (u, v);
-          stacks_are = cc;
+          stacks_are = is;
           cost_long = eqb-true (length t.cost) (rows_all net) l.0;
           way_long = eqb-true (length t.way) (rows_all net) m.0;
           waiting_long = eqb-true (length t.waiting) (rows_all net) m.1;
         }
-    go true u false v d = absurd (let z : ◌≡◌ {A = ℕ} 0 1 = cc in omega arith)
-    go false u b v d = absurd (let z : ◌≡◌ {A = ℕ} 0 1 = cc in omega arith)
+    go true u false v d is = absurd (omega arith)
+    go false u b v d is = absurd (true≢false (sym (eq-eqb (refusal_of net) 0 d) ∙ u))
 
-pub is_refused : (net : Network) (t : Table) (r : ℕ) → ready_of net (length t.cost) (length t.way) (length t.waiting) ≡ Checked.Refused r
-    → (refusal net t ≡ r) × (1 ≤ r)
-unfolding refusal refusal_by
-is_refused net t r e = go (eqb (refusal_of net) 0) refl (ok_lengths net (length t.cost) (length t.way) (length t.waiting)) refl e
-  where
-    go : (a : Bool) → eqb (refusal_of net) 0 ≡ a → (b : Bool) → ok_lengths net (length t.cost) (length t.way) (length t.waiting) ≡ b
-        → cond (eqb (cond a (cond b 0 3) (refusal_of net)) 0) (Checked.Stacks (stacks net)) (Checked.Refused (cond a (cond b 0 3) (refusal_of net)))
-        ≡ Checked.Refused r → (refusal net t ≡ r) × (1 ≤ r)
-    go true u true v d = absurd (let z : ◌≡◌ {A = ℕ} 0 1 = cc in omega arith)
-    go true u false v d = let q : 3 ≡ r = cc in (simp (u, v) q, omega arith)
-    go false u b v d =
-        let q : refusal_of net ≡ r = cc in
-        (simp u q, omega (arith, q, eqb-false (refusal_of net) 0 u))
+pub is_refused : (net : Network) (t : Table) (r : Refusal) → ready_of net (length t.cost) (length t.way) (length t.waiting) ≡ Err r
+    → (r ≡ named (refusal net t)) × (eqb (refusal net t) 0 ≡ false)
+unfolding refusal
+is_refused net t r e =
+    let a = answered_err (refusal_by net (length t.cost) (length t.way) (length t.waiting)) (stacks net) r (sym e) in
+    (a.1, a.0)
 
 pub sized_so : (net : Network) (t : Table) (s : ℕ) → Ready net t s → Sized net t
 sized_so net t s r = record { costs = r.cost_long; ways = r.way_long; waits = r.waiting_long }
@@ -111,8 +108,8 @@ sized_so net t s r = record { costs = r.cost_long; ways = r.way_long; waits = r.
 pub begun : {A : Type 0} (net : Network) (t : Table) (s : ℕ) → Ready net t s → (x y : A) → cond (eqb (refusal net t) 0) x y ≡ x
 begun net t s r x y = simp (eq-eqb (refusal net t) 0 r.nothing)
 
-pub stopped : {A : Type 0} (net : Network) (t : Table) (r : ℕ) → (refusal net t ≡ r) × (1 ≤ r) → (x y : A) → cond (eqb (refusal net t) 0) x y ≡ y
-stopped net t r h x y = simp (ne_eqb (refusal net t) 0 (λ (e : refusal net t ≡ 0). omega (arith, h.0, h.1)))
+pub stopped : {A : Type 0} (net : Network) (t : Table) → eqb (refusal net t) 0 ≡ false → (x y : A) → cond (eqb (refusal net t) 0) x y ≡ y
+stopped net t off x y = simp off
 
 -- there are at most 524,288 rows
 pub rows_few : (net : Network) (t : Table) (s : ℕ) → Ready net t s → (length t.waiting ≤ 524288) × (rows_each net ≤ 16384) × (rows_all net ≤ 524288)

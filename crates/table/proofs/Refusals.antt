@@ -9,7 +9,8 @@ use lib.ListN.{length}
 use lib.Dec.{eqb}
 use borrow.Author.Tests.{eqb-true, eqb-false, eq-eqb, ne_eqb}
 use Rattle.network.specs.Network.{Network, stacks, refusal_of}
-use Rattle.network.specs.declared.Checked.{Checked}
+use Rattle.std.specs.Prelude.{Ok, Err}
+use Rattle.refusal.specs.Numbers.{named}
 use Rattle.network.proofs.Laws.{refusal_most}
 use Rattle.table.specs.Table.{Table, delivered}
 use Rattle.table.specs.Answers.{ok_lengths, refusal_by, refusal, message_refusal, deliver_refusal, deliver_table}
@@ -30,8 +31,8 @@ module _ (net : Network) (t : Table) where
   ready_then e = is_ready net t (stacks net) (go (eqb (refusal_of net) 0) refl (ok_lengths net (length t.cost) (length t.way) (length t.waiting)) e)
     where
       go : (a : Bool) → eqb (refusal_of net) 0 ≡ a → (b : Bool) → cond a (cond b 0 3) (refusal_of net) ≡ 0
-          → cond (eqb (cond a (cond b 0 3) (refusal_of net)) 0) (Checked.Stacks (stacks net)) (Checked.Refused (cond a (cond b 0 3) (refusal_of net)))
-          ≡ Checked.Stacks (stacks net)
+          → cond (eqb (cond a (cond b 0 3) (refusal_of net)) 0) (Ok (stacks net)) (Err (named (cond a (cond b 0 3) (refusal_of net))))
+          ≡ Ok (stacks net)
       go true u true d = refl
       go true u false d = absurd (omega arith)
       go false u b d = absurd (eqb-false (refusal_of net) 0 u d)

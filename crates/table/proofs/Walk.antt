@@ -11,8 +11,8 @@ use lib.ListN.{length, get_or}
 use lib.Arith.{digits_lt}
 use Rattle.bits.specs.Bits.{has, lowest}
 use Rattle.bits.proofs.LowestBit.{lowest_has, lowest_first}
-use Rattle.words.specs.declared.Found.TheVariants.{Nowhere, At}
-use Rattle.words.specs.Words.{first_in, first_between}
+use Rattle.std.specs.Prelude.{None}
+use Rattle.words.specs.Words.{found_at, first_in, first_between}
 use Rattle.words.proofs.Answers.{first_whole}
 use Rattle.words.proofs.Search.{first_here, first_next, first_end}
 use Rattle.table.proofs.Firsts.{Ahead}
@@ -51,9 +51,9 @@ module _ {ws : List ℕ} {rows node row : ℕ} (at : AtRow ws rows node row) whe
   -- in a word that is not 0 the first bit that is set is found
   pub bit_found : (v : ℕ) → get_or ws (node * rows + row) 0 < 2 ^ 32 → (get_or ws (node * rows + row) 0 ≡ 0 → ⊥)
       → ((k : ℕ) → k < v → has (get_or ws (node * rows + row) 0) k ≡ false) → has (get_or ws (node * rows + row) 0) v ≡ true
-      → At (node * rows + row) v ≡ first_in ws
+      → found_at (node * rows + row) v ≡ first_in ws
   bit_found v fits ne below one =
-      ap (λ (b : ℕ). At (node * rows + row) b) (sym (lowest_is (get_or ws (node * rows + row) 0) v (omega (arith, ne)) fits below one))
+      ap (λ (b : ℕ). found_at (node * rows + row) b) (sym (lowest_is (get_or ws (node * rows + row) 0) v (omega (arith, ne)) fits below one))
       ∙ sym (first_here ws (node * rows + row) (length ws) at.inside at.inside ne) ∙ at.ahead
 
 -- after its last row a node is passed
@@ -63,7 +63,7 @@ node_passed ws rows node row h l ahead =
     ap (λ (i : ℕ). first_between i (length ws) ws) e ∙ ahead
 
 -- past the last node there is nothing
-pub all_passed : (ws : List ℕ) (nodes rows node : ℕ) → length ws ≡ nodes * rows → node ≤ nodes → nodes ≤ node → Ahead ws (node * rows) → Nowhere ≡ first_in ws
+pub all_passed : (ws : List ℕ) (nodes rows node : ℕ) → length ws ≡ nodes * rows → node ≤ nodes → nodes ≤ node → Ahead ws (node * rows) → None ≡ first_in ws
 all_passed ws nodes rows node long h l ahead =
     let e : node ≡ nodes = omega arith in
     sym (first_end ws (node * rows) (length ws) (omega (arith, ap (λ (k : ℕ). k * rows) e))) ∙ ahead

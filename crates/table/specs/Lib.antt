@@ -2,3 +2,4 @@
 pub mod Table
 pub mod Answers
 pub mod Run
+pub mod Handed

@@ -1,5 +1,6 @@
 -- Run: "first waiting, then deliver, until quiet or k are done; answers the number done".
-use Rattle.std.specs.Prelude.{ℕ, zero, suc, ◌+◌, ◌≡◌, cond, eqb}
+use Rattle.std.specs.Prelude.{ℕ, zero, suc, ◌+◌, ◌≡◌, cond, eqb, Option, Some, None}
+use Rattle.refusal.specs.Numbers.{refused_with}
 use Rattle.words.specs.Words.{first_in}
 use Rattle.words.specs.declared.Found.{Found}
 use Rattle.network.specs.Network.{Network}
@@ -18,7 +19,7 @@ pub record RunOutcome : Type 0 where
 pub record Runs (o : RunOutcome) (answer : Ran) (after : Table) : Type 0 where
   pub done : answer.done ≡ o.done
   pub offers : answer.offers ≡ o.offers
-  pub refused : answer.refused ≡ o.refused
+  pub refused : answer.refused ≡ refused_with o.refused
   pub table : after ≡ o.table
 
 -- one delivery more in front of a run
@@ -38,9 +39,9 @@ module _ (net : Network) where
       (ends (message_refusal net t Q U D N) t)
 
   -- one turn at what the search found
-  abbrev pub turn : (Table → RunOutcome) → Table → Found → RunOutcome
-  turn rest t Found.Nowhere = ends 0 t
-  turn rest t (Found.At i U) = delivering rest t (node_at net i) U (destination_at net i) (number_at net i)
+  abbrev pub turn : (Table → RunOutcome) → Table → Option Found → RunOutcome
+  turn rest t None = ends 0 t
+  turn rest t (Some f) = delivering rest t (node_at net f.word) f.bit (destination_at net f.word) (number_at net f.word)
 
   -- so many turns
   abbrev pub steps : ℕ → Table → RunOutcome

@@ -1,34 +1,40 @@
-// The routing table: the answers of its calls, and the tests that every call makes first. specs/ says what a table is and what each call does to it.
+// The routing table: how calls are lent it, their answers, and the tests that every call makes first. specs/ says what a table is and what each call does
+// to it.
 #![tactic(auto)]
 
 pub mod ready;
 
-// How many messages wait, or the refusal's number.
-#[derive(Clone, Copy)]
-pub enum Counted {
-    Messages(u64),
-    Refused(u32),
+use refusal::Refusal;
+
+/// A table that a call only reads: what each row costs, its way, and its waiting bits.
+#[derive(Clone, Copy, Debug, PartialEq, Eq, Drop)]
+pub struct Table<'a> {
+    pub cost: &'a [u32],
+    pub way: &'a [u16],
+    pub waiting: &'a [u32],
 }
 
-// The first message that waits: sender, destination, stack number and receiver.
-#[derive(Clone, Copy)]
-pub enum First {
-    Message(usize, usize, usize, usize),
-    Quiet,
-    Refused(u32),
+/// A table that a call writes.
+#[derive(Drop)]
+pub struct TableMut<'a> {
+    pub cost: &'a mut [u32],
+    pub way: &'a mut [u16],
+    pub waiting: &'a mut [u32],
 }
 
-// How many rows took an offer, or the refusal's number.
-#[derive(Clone, Copy)]
-pub enum Delivered {
-    Rows(usize),
-    Refused(u32),
+/// A message: from whom to whom, about which destination and which stack's number.
+#[derive(Clone, Copy, Debug, PartialEq, Eq, Drop)]
+pub struct Message {
+    pub sender: usize,
+    pub receiver: usize,
+    pub destination: usize,
+    pub number: usize,
 }
 
-// Deliveries done, the offers that rows took, and the refusal that ended the run, 0 where none did.
-#[derive(Clone, Copy)]
+/// Deliveries done, the offers that rows took, and the refusal that ended the run, if one did.
+#[derive(Clone, Copy, Debug, PartialEq, Eq, Drop)]
 pub struct Ran {
     pub done: u32,
     pub offers: u64,
-    pub refused: u32,
+    pub refused: Option<Refusal>,
 }
