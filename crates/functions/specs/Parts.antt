@@ -1,5 +1,5 @@
 -- A function taken apart, and put together again.
-use Rattle.std.specs.Prelude.{ℕ, zero, suc, ◌+◌, ◌*◌}
+use Rattle.std.specs.Prelude.{ℕ, zero, suc, ◌+◌, ◌*◌, ◌≡◌}
 use Rattle.functions.specs.Functions.{kind_of, from_of, to_of}
 use Rattle.functions.specs.declared.Kind.{Kind}
 use Rattle.functions.specs.declared.Function.{Function}
@@ -14,6 +14,10 @@ abbrev pub kind_number : Kind → ℕ
 kind_number Kind.Convert = 0
 kind_number Kind.Wrap = 1
 kind_number Kind.Unwrap = 2
+
+-- the number that a conversion gives
+abbrev pub IsKindNumber : Kind → ℕ → Type 0
+IsKindNumber kind n = n ≡ kind_number kind
 
 abbrev pub function_of : ℕ → Function
 function_of f = record { kind = kind_at (kind_of f); a = from_of f; b = to_of f }

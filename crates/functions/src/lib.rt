@@ -5,7 +5,7 @@
 ghost use Rattle.std.specs.Prelude.{◌≡◌, ◌&&◌, ◌≤◌, ◌<◌, Ok, Err, cond, leb};
 ghost use Rattle.functions.specs.Functions.{kind_of, ok_function};
 ghost use Rattle.functions.specs.Answers.{applied_of, move_number, moved_of, inverse_of};
-ghost use Rattle.functions.specs.Parts.{kind_at, kind_number, function_of, inverse_by};
+ghost use Rattle.functions.specs.Parts.{IsKindNumber, kind_at, kind_number, function_of, inverse_by};
 
 use refusal::Refusal;
 
@@ -15,6 +15,14 @@ pub enum Kind {
     Convert = 0,
     Wrap = 1,
     Unwrap = 2,
+}
+
+impl From<Kind> for usize {
+    ghost from_gives = { IsKindNumber };
+
+    fn from(kind: Kind) -> usize {
+        kind as usize
+    }
 }
 
 /// A function by its parts: convert a to b, wrap a in b, or unwrap a from b.

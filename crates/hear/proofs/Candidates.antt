@@ -5,14 +5,14 @@ use native.Mathlib.Decide.{dec_lt}
 use native.Mathlib.Omega.{arith}
 use mathlib.Core.Path.{◌≡◌, refl, sym, ap, ◌∙◌, subst}
 use mathlib.Core.Logic.{by_cases}
-use mathlib.Core.List.{List, []}
-use lib.ListN.{get_or}
 use borrow.Author.Tests.{lt-ltb, le-ltb}
 use Rattle.stacks.specs.Stacks.{top, rest}
 use Rattle.functions.specs.Functions.{kind_of, from_of, to_of}
 use Rattle.hear.specs.Hearing.{Gateway, Message, leader}
-use Rattle.hear.specs.Answers.{grid_of_kind, words_of}
 use Rattle.hear.specs.Steps.{candidate_of, candidate_function, Turn, Parted}
+use Rattle.functions.specs.declared.Kind.{Kind}
+use Rattle.functions.specs.Parts.{kind_at, kind_number}
+use Rattle.functions.proofs.Parts.{kind_back}
 use Rattle.hear.specs.declared.Candidate.{Candidate}
 use Rattle.hear.proofs.Sources.{Source, led, moved_source, put_together}
 use Rattle.hear.proofs.Leaders.{leader_found, leader_only}
@@ -28,38 +28,41 @@ turn_of_function p f = turn_by p (kind_of f) (from_of f) (to_of f)
 
 -- ---- the three kinds
 module _ (p number i : ℕ) where
-  pub converts : i < p → candidate_of p number i ≡ record { kind = 0; a = i; b = top p number; source = p * rest p number + i + 1 }
+  pub converts : i < p → candidate_of p number i ≡ record { function = record { kind = Kind.Convert; a = i; b = top p number }; source = p * rest p number + i + 1 }
   unfolding candidate_of
   converts low = simp (lt-ltb i p low)
 
-  pub wraps : p ≤ i → i ≤ p → candidate_of p number i ≡ record { kind = 1; a = top p (rest p number); b = top p number; source = rest p number }
+  pub wraps : p ≤ i → i ≤ p → candidate_of p number i ≡ record { function = record { kind = Kind.Wrap; a = top p (rest p number); b = top p number }; source = rest p number }
   unfolding candidate_of
   wraps low high = simp (le-ltb i p low, le-ltb p i high)
 
-  pub unwraps : p < i → candidate_of p number i ≡ record { kind = 2; a = top p number; b = i - p - 1; source = p * number + (i - p - 1) + 1 }
+  pub unwraps : p < i → candidate_of p number i ≡ record { function = record { kind = Kind.Unwrap; a = top p number; b = i - p - 1 }; source = p * number + (i - p - 1) + 1 }
   unfolding candidate_of
   unwraps high = simp (le-ltb i p (omega arith), lt-ltb p i high)
 
   -- nothing is below the heard top
-  pub wraps_none : p ≤ i → i ≤ p → rest p number < 1 → candidate_of p number i ≡ record { kind = 1; a = 0; b = top p number; source = 0 }
+  pub wraps_none : p ≤ i → i ≤ p → rest p number < 1 → candidate_of p number i ≡ record { function = record { kind = Kind.Wrap; a = 0; b = top p number }; source = 0 }
   wraps_none low high none =
       let e : rest p number ≡ 0 = omega arith in
-      wraps low high ∙ ap (λ (x : ℕ). record { kind = 1; a = top p x; b = top p number; source = x }) e
-      ∙ ap (λ (x : ℕ). record { kind = 1; a = x; b = top p number; source = 0 }) (zero-mod p)
+      wraps low high ∙ ap (λ (x : ℕ). record { function = record { kind = Kind.Wrap; a = top p x; b = top p number }; source = x }) e
+      ∙ ap (λ (x : ℕ). record { function = record { kind = Kind.Wrap; a = x; b = top p number }; source = 0 }) (zero-mod p)
 
 -- the same for whoever has the top and the rest at hand
 module _ (p number tip under i : ℕ) (z : Parted p number tip under i) where
-  pub converts_by : i < p → record { kind = 0; a = i; b = tip; source = p * under + i + 1 } ≡ candidate_of p number i
+  pub converts_by : i < p → record { function = record { kind = Kind.Convert; a = i; b = tip }; source = p * under + i + 1 } ≡ candidate_of p number i
   converts_by low = sym (converts p number i low ∙ cc (z.tops, z.rests))
 
-  pub unwraps_by : p < i → record { kind = 2; a = tip; b = i - p - 1; source = p * number + (i - p - 1) + 1 } ≡ candidate_of p number i
+  pub unwraps_by : p < i → record { function = record { kind = Kind.Unwrap; a = tip; b = i - p - 1 }; source = p * number + (i - p - 1) + 1 } ≡ candidate_of p number i
   unwraps_by high = sym (unwraps p number i high ∙ cc z.tops)
 
-  pub wraps_by : p ≤ i → i ≤ p → record { kind = 1; a = top p under; b = tip; source = under } ≡ candidate_of p number i
+  pub wraps_by : p ≤ i → i ≤ p → record { function = record { kind = Kind.Wrap; a = top p under; b = tip }; source = under } ≡ candidate_of p number i
   wraps_by low high = sym (wraps p number i low high ∙ cc (z.tops, z.rests))
 
-  pub none_by : p ≤ i → i ≤ p → under < 1 → record { kind = 1; a = 0; b = tip; source = 0 } ≡ candidate_of p number i
-  none_by low high none = sym (wraps_none p number i low high (omega (arith, z.rests)) ∙ cc z.tops)
+  pub none_by : p ≤ i → i ≤ p → under < 1
+      → record { function = record { kind = Kind.Wrap; a = 0; b = tip }; source = under } ≡ candidate_of p number i
+  none_by low high none =
+      let e : under ≡ 0 = omega arith in
+      sym (wraps_none p number i low high (omega (arith, z.rests)) ∙ cc (z.tops, e))
 
 -- the stack numbers fit
 pub below_number : (p n under : ℕ) → under ≡ rest p n → p * under ≤ n
@@ -73,11 +76,11 @@ past p i h = omega arith
 
 -- the i-th candidate, by its parts
 pub record Candid (p number i : ℕ) (c : Candidate) : Type 0 where
-  pub kinds : c.kind < 3
-  pub firsts : c.a < p
-  pub seconds : c.b < p
-  pub turn : turn_by p c.kind c.a c.b ≡ i
-  pub sourced : 1 ≤ c.source → Source p number c.kind c.a c.b c.source
+  pub kinds : kind_number c.function.kind < 3
+  pub firsts : c.function.a < p
+  pub seconds : c.function.b < p
+  pub turn : turn_by p (kind_number c.function.kind) c.function.a c.function.b ≡ i
+  pub sourced : 1 ≤ c.source → Source p number (kind_number c.function.kind) c.function.a c.function.b c.source
 
 pub candid : (p number i : ℕ) → 1 ≤ p → i ≤ 2 * p → Candid p number i (candidate_of p number i)
 candid p number i some turn =
@@ -95,12 +98,11 @@ candid p number i some turn =
 
 -- what makes the heard stack is the candidate of its turn
 pub in_turn : (p number k a b n : ℕ) → k < 3 → a < p → Source p number k a b n
-    → candidate_of p number (turn_by p k a b) ≡ record { kind = k; a = a; b = b; source = n }
+    → candidate_of p number (turn_by p k a b) ≡ record { function = record { kind = kind_at k; a = a; b = b }; source = n }
 in_turn p number zero a b n low small s = converts p number a small ∙ (cc)
 in_turn p number (suc zero) a b n low small s = wraps p number p (omega arith) (omega arith) ∙ (cc)
 in_turn p number (suc (suc k)) a b n low small s =
     let d : p + 1 + b - p - 1 ≡ b = omega arith in
-    let e : 2 ≡ suc (suc k) = omega arith in
     unwraps p number (p + 1 + b) (omega arith) ∙ (cc)
 
 pub turn_low : (p k a b : ℕ) → 1 ≤ p → a < p → b < p → turn_by p k a b < 2 * p + 1
@@ -119,18 +121,6 @@ digits k a b ha hb =
     let d : (64 * k + 8 * a + b) / 8 ≡ 8 * k + a = omega arith in
     record { kind = omega arith; from = omega arith; to = omega arith }
 
--- a function's word is its grid's entry
-grid_at : (grids : List (List (List ℕ))) (k : ℕ) → k < 3 → grid_of_kind k (get_or grids 0 []) (get_or grids 1 []) (get_or grids 2 []) ≡ get_or grids k []
-grid_at grids zero low = refl
-grid_at grids (suc zero) low = refl
-grid_at grids (suc (suc k)) low = let e : 2 ≡ suc (suc k) = omega arith in ap (λ (x : ℕ). get_or grids x []) e
-
-pub word_at_lem : (grids : List (List (List ℕ))) (c : Candidate) → c.kind < 3 → c.a < 8 → c.b < 8
-    → get_or (get_or (get_or grids c.kind []) c.a []) c.b 0 ≡ words_of (get_or grids 0 []) (get_or grids 1 []) (get_or grids 2 []) (candidate_function c)
-word_at_lem grids c kinds firsts seconds =
-    let d = digits c.kind c.a c.b firsts seconds in
-    sym (simp (d.kind, d.from, d.to, grid_at grids c.kind kinds))
-
 -- ---- the leaders among the candidates
 module _ (g : Gateway) (m : Message) (i : ℕ) (z : Turn g.p m.number i) (within : m.number ≤ g.most) (bounded : g.most ≤ 16384) where
   abbrev here : Candidate
@@ -139,8 +129,8 @@ module _ (g : Gateway) (m : Message) (i : ℕ) (z : Turn g.p m.number i) (within
   parts : Candid g.p m.number i here
   parts = candid g.p m.number i z.some z.turn
 
-  functions : Digits (candidate_function here) here.kind here.a here.b
-  functions = digits here.kind here.a here.b (omega (arith, parts.firsts, z.few)) (omega (arith, parts.seconds, z.few))
+  functions : Digits (candidate_function here) (kind_number here.function.kind) here.function.a here.function.b
+  functions = digits (kind_number here.function.kind) here.function.a here.function.b (omega (arith, parts.firsts, z.few)) (omega (arith, parts.seconds, z.few))
 
   pub function_low : candidate_function here < 192
   function_low = omega (arith, parts.kinds, parts.firsts, parts.seconds, z.few)
@@ -155,7 +145,7 @@ module _ (g : Gateway) (m : Message) (i : ℕ) (z : Turn g.p m.number i) (within
       let f = leader g m x in
       let q = sym (in_turn g.p m.number (kind_of f) (from_of f) (to_of f) x (omega arith) l.moves.parts.from l.from_source) ∙ ap (candidate_of g.p m.number)
       e in
-      (put_together f ∙ ap candidate_function q, ap (λ (y : Candidate). y.source) q)
+      (put_together f ∙ ap (λ (k : ℕ). 64 * k + 8 * from_of f + to_of f) (sym (kind_back (kind_of f) (omega arith))) ∙ ap candidate_function q, ap (λ (y : Candidate). y.source) q)
 
   pub leads : 0 < g.words (candidate_function here) → 1 ≤ here.source → here.source ≤ g.most → leader g m here.source ≡ candidate_function here
   leads has some low =

@@ -3,18 +3,17 @@ use Prim.Native.Nat.{ℕ, ◌+◌, ◌*◌, ◌≤◌, ◌<◌}
 use native.Mathlib.Nat.{mul-le-mul}
 use native.Mathlib.Omega.{arith}
 use mathlib.Core.Path.{◌≡◌, sym, ap, ◌∙◌, subst}
-use mathlib.Core.List.{List, []}
 use lib.ListN.{length, get_or, set}
 use mir.Syntax.{w64}
 use mir.Val.{Fits}
 use Rattle.bits.specs.Bits.{with_all}
 use Rattle.hear.specs.Hearing.{Gateway, Message, Rows}
-use Rattle.hear.specs.Answers.{words_of, gateway_of, rows_of, Hears}
+use Rattle.hear.specs.Answers.{rows_of, Hears}
 use Rattle.hear.specs.Steps.{candidate_of, candidate_function, offer_of, Turn}
 use Rattle.std.specs.Prelude.{Ok}
 use Rattle.hear.specs.declared.Candidate.{Candidate}
 use Rattle.hear.specs.declared.Offer.{Offer}
-use Rattle.hear.proofs.Candidates.{Candid, candid, word_at_lem}
+use Rattle.hear.proofs.Candidates.{Candid, candid}
 use Rattle.hear.proofs.Below.{rows_below, taken_below, Came, rows_none, taken_none, rows_all, taken_all, rows_long}
 use Rattle.hear.proofs.Step.{rows_with, offer_in, offer_inside, idle, takes_it}
 use Rattle.hear.proofs.Answers.{Passed, refused, passed, finished}
@@ -116,21 +115,16 @@ module _ {g : Gateway} {m : Message} {r s : Rows} {i count : ℕ} {o : Offer} (q
 
 -- ---- the candidate and its offer, as the code has them
 pub record Small (c : Candidate) : Type 0 where
-  pub kinds : c.kind < 3
-  pub firsts : c.a < 8
-  pub seconds : c.b < 8
+  pub firsts : c.function.a < 8
+  pub seconds : c.function.b < 8
 
 pub small : (p number i : ℕ) (c : Candidate) → Turn p number i → c ≡ candidate_of p number i → Small c
 small p number i c z is =
     let d = subst (Candid p number i) (sym is) (candid p number i z.some z.turn) in
-    record { kinds = d.kinds; firsts = omega (arith, d.firsts, z.few); seconds = omega (arith, d.seconds, z.few) }
+    record { firsts = omega (arith, d.firsts, z.few); seconds = omega (arith, d.seconds, z.few) }
 
-pub offered : (p most neighbours : ℕ) (grids : List (List (List ℕ))) (m : Message) (i : ℕ) (c : Candidate) (o : Offer) → Turn p m.number i
-    → c ≡ candidate_of p m.number i
-    → o ≡ offer_of most m.sender m.destination m.cost m.link (get_or (get_or (get_or grids c.kind []) c.a []) c.b 0) c
-    → o ≡ offer_in (gateway_of p most neighbours (get_or grids 0 []) (get_or grids 1 []) (get_or grids 2 [])) m i
-offered p most neighbours grids m i c o z is e =
-    let d = small p m.number i c z is in
-    e ∙ ap (λ (w : ℕ). offer_of most m.sender m.destination m.cost m.link w c) (word_at_lem grids c d.kinds d.firsts d.seconds)
-    ∙ ap (λ (x : Candidate). offer_of most m.sender m.destination m.cost m.link (words_of (get_or grids 0 []) (get_or grids 1 []) (get_or grids 2 [])
-    (candidate_function x)) x) is
+pub offered : (g : Gateway) (m : Message) (i w : ℕ) (c : Candidate) (o : Offer) → c ≡ candidate_of g.p m.number i → w ≡ g.words (candidate_function c)
+    → o ≡ offer_of g.most m.sender m.destination m.cost m.link w c → o ≡ offer_in g m i
+offered g m i w c o is word e =
+    e ∙ ap (λ (x : ℕ). offer_of g.most m.sender m.destination m.cost m.link x c) word
+    ∙ ap (λ (x : Candidate). offer_of g.most m.sender m.destination m.cost m.link (g.words (candidate_function x)) x) is

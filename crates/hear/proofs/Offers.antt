@@ -10,6 +10,8 @@ use mir.Val.{Fits}
 use borrow.Author.Tests.{ltb-true, leb-true}
 use Rattle.lists.proofs.Tests.{both}
 use Rattle.hear.specs.Steps.{place_of, offer_of, Priced}
+use Rattle.functions.specs.Parts.{kind_number}
+use Rattle.functions.proofs.Parts.{kind_low}
 use Rattle.hear.specs.declared.Candidate.{Candidate}
 
 module _ (most word : ℕ) (c : Candidate) where
@@ -39,31 +41,36 @@ module _ (most word : ℕ) (c : Candidate) where
     unfolding offer_of
     none e = simp (sym same ∙ e)
 
-    pub made : tested ≡ true
-        → record { place = place_of most destination c.source; cost = cost + link + (word - 1); way = 256 * sender + 64 * c.kind + 8 * c.a + c.b }
+    pub made : (k : ℕ) → k ≡ kind_number c.function.kind → tested ≡ true
+        → record {
+          place = place_of most destination c.source;
+          cost = cost + link + (word - 1);
+          way = 256 * sender + 64 * k + 8 * c.function.a + c.function.b;
+        }
         ≡ offer_of most sender destination cost link word c
     unfolding offer_of
-    made e =
+    made k is e =
         simp (sym same ∙ e)
         (ap (λ (y : ℕ). record { place = place_of most destination c.source; cost = cost + link + (word - 1); way = y }) (omega arith))
 
 -- the numbers on the way to the place, to the cost and to the way
-pub record OfferFits (most sender destination cost link word : ℕ) (c : Candidate) : Type 0 where
+pub record OfferFits (most sender destination cost link word k : ℕ) (c : Candidate) : Type 0 where
   pub rows : Fits w64 (destination * most)
   pub place : c.source ≤ most → Fits w64 (destination * most + (c.source - 1))
   pub linked : Fits w32 (cost + link)
   pub costs : Fits w32 (cost + link + (word - 1))
   pub sent : Fits w64 (256 * sender)
-  pub kind : Fits w64 (64 * c.kind)
-  pub kinds : Fits w64 (256 * sender + 64 * c.kind)
-  pub first : Fits w64 (8 * c.a)
-  pub firsts : Fits w64 (256 * sender + 64 * c.kind + 8 * c.a)
-  pub seconds : Fits w64 (256 * sender + 64 * c.kind + 8 * c.a + c.b)
-  pub way : Fits w16 (256 * sender + 64 * c.kind + 8 * c.a + c.b)
+  pub kind : Fits w64 (64 * k)
+  pub kinds : Fits w64 (256 * sender + 64 * k)
+  pub first : Fits w64 (8 * c.function.a)
+  pub firsts : Fits w64 (256 * sender + 64 * k + 8 * c.function.a)
+  pub seconds : Fits w64 (256 * sender + 64 * k + 8 * c.function.a + c.function.b)
+  pub way : Fits w16 (256 * sender + 64 * k + 8 * c.function.a + c.function.b)
 
-pub offer_fits : (most sender destination cost link word : ℕ) (c : Candidate) → Priced most sender destination cost c → Fits w16 link → Fits w16 word
-    → OfferFits most sender destination cost link word c
-offer_fits most sender destination cost link word c q l w =
+pub offer_fits : (most sender destination cost link word k : ℕ) (c : Candidate) → Priced most sender destination cost c → Fits w16 link → Fits w16 word
+    → k ≡ kind_number c.function.kind → OfferFits most sender destination cost link word k c
+offer_fits most sender destination cost link word k c q l w is =
+    let low : k < 3 = omega (arith, is, kind_low c.function.kind) in
     let rows = mul-le-mul {n₁ = destination} {m₁ = most} {n₂ = 32} {m₂ = 16384} (omega arith) q.bounded in
     record {
       rows = omega arith;

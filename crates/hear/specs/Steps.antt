@@ -2,6 +2,9 @@
 use Rattle.std.specs.Prelude.{ℕ, ◌+◌, ◌-◌, ◌*◌, ◌≤◌, ◌<◌, ◌≡◌, cond, ◌&&◌, ltb}
 use Rattle.stacks.specs.Stacks.{one_to, top, rest}
 use Rattle.hear.specs.Answers.{ceiling}
+use Rattle.functions.specs.declared.Kind.{Kind}
+use Rattle.functions.specs.declared.Function.{Function}
+use Rattle.functions.specs.Parts.{kind_number}
 use Rattle.hear.specs.declared.Candidate.{Candidate}
 use Rattle.hear.specs.declared.Offer.{Offer}
 
@@ -9,13 +12,16 @@ use Rattle.hear.specs.declared.Offer.{Offer}
 -- the functions that can make the heard stack, by their numbers: a convert of each protocol, the wrap, an unwrap from each protocol
 unfoldable pub candidate_of : ℕ → ℕ → ℕ → Candidate
 candidate_of p number i =
-    cond (ltb i p) (record { kind = 0; a = i; b = top p number; source = p * rest p number + i + 1 })
-    (cond (ltb p i) (record { kind = 2; a = top p number; b = i - p - 1; source = p * number + (i - p - 1) + 1 })
-    (record { kind = 1; a = top p (rest p number); b = top p number; source = rest p number }))
+    cond (ltb i p) (record { function = record { kind = Kind.Convert; a = i; b = top p number }; source = p * rest p number + i + 1 })
+    (cond (ltb p i) (record { function = record { kind = Kind.Unwrap; a = top p number; b = i - p - 1 }; source = p * number + (i - p - 1) + 1 })
+    (record { function = record { kind = Kind.Wrap; a = top p (rest p number); b = top p number }; source = rest p number }))
 
 -- "A function's number is 64 x kind + 8a + b"
+abbrev pub function_number : Function → ℕ
+function_number f = 64 * kind_number f.kind + 8 * f.a + f.b
+
 abbrev pub candidate_function : Candidate → ℕ
-candidate_function candidate = 64 * candidate.kind + 8 * candidate.a + candidate.b
+candidate_function candidate = function_number candidate.function
 
 -- ---- one offer
 -- where the row of a destination and a stack number stands
@@ -50,6 +56,5 @@ pub record Priced (most sender destination cost : ℕ) (candidate : Candidate) :
   pub sends : sender < 32
   pub known : destination < 32
   pub priced : cost ≤ ceiling
-  pub kinds : candidate.kind < 3
-  pub firsts : candidate.a < 8
-  pub seconds : candidate.b < 8
+  pub firsts : candidate.function.a < 8
+  pub seconds : candidate.function.b < 8

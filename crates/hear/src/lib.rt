@@ -1,12 +1,13 @@
 // A gateway hears a message: each row from which a function leads to the stack heard of gets an offer. Total; the contract is in specs/Answers.antt.
 #![tactic(auto)]
 
-ghost use Rattle.std.specs.Prelude.{◌≡◌};
+ghost use Rattle.std.specs.Prelude.{◌≡◌, ◌<◌};
 ghost use Rattle.refusal.specs.Numbers.{answered};
-ghost use Rattle.hear.specs.Answers.{rows_of, refused_by, Hears};
+ghost use Rattle.hear.specs.Answers.{rows_of, words_of, refused_by, Hears};
 ghost use Rattle.hear.specs.Handed.{gateway_seen, message_seen};
-ghost use Rattle.hear.specs.Steps.{candidate_of, offer_of, Parted, Priced};
+ghost use Rattle.hear.specs.Steps.{candidate_of, function_number, offer_of, Parted, Priced};
 
+use functions::{Function, Kind};
 use refusal::Refusal;
 
 /// A gateway: p protocols, `most` stacks, the word of its neighbours, and one grid of words for each kind of function.
@@ -20,6 +21,21 @@ pub struct Gateway {
     pub unwrap: [[u16; 8]; 8],
 }
 
+impl Gateway {
+    // The word of a function: its price plus 1, and 0 where the gateway can't.
+    fn word(&self, function: Function) -> u16
+        requires { (function.a < 8) × (function.b < 8) }
+        ensures { result ≡ words_of self.now.convert self.now.wrap self.now.unwrap (function_number function) }
+    {
+        let Function { kind, a, b } = function;
+        match kind {
+            Kind::Convert => self.convert[a][b],
+            Kind::Wrap => self.wrap[a][b],
+            Kind::Unwrap => self.unwrap[a][b],
+        }
+    }
+}
+
 /// A message: who sent it, about which destination and which stack's number, the sender's cost, and what the link back to the sender costs.
 #[derive(Clone, Copy, Debug, PartialEq, Eq, Drop)]
 pub struct Message {
@@ -30,13 +46,10 @@ pub struct Message {
     pub link: u16,
 }
 
-// A function that makes the heard stack, by its kind: convert a to b, wrap a in b or unwrap a from b; and the number of the stack that it
-// makes it of, 0 where there is none.
+// A function that makes the heard stack, and the number of the stack that it makes it of, 0 where there is none.
 #[derive(Clone, Copy)]
 struct Candidate {
-    kind: usize,
-    a: usize,
-    b: usize,
+    function: Function,
     source: usize,
 }
 
@@ -55,33 +68,31 @@ fn candidate_of(p: usize, number: usize, top: usize, rest: usize, i: usize) -> C
 {
     if i < p {
         return Candidate {
-            kind: 0,
-            a: i,
-            b: top,
+            function: Function {
+                kind: Kind::Convert,
+                a: i,
+                b: top,
+            },
             source: p * rest + i + 1,
         };
     }
     if p < i {
         let b = i - p - 1;
         return Candidate {
-            kind: 2,
-            a: top,
-            b: b,
+            function: Function {
+                kind: Kind::Unwrap,
+                a: top,
+                b,
+            },
             source: p * number + b + 1,
         };
     }
-    if rest < 1 {
-        return Candidate {
-            kind: 1,
-            a: 0,
-            b: top,
-            source: 0,
-        };
-    }
     Candidate {
-        kind: 1,
-        a: (rest - 1) % p,
-        b: top,
+        function: Function {
+            kind: Kind::Wrap,
+            a: if rest < 1 { 0 } else { (rest - 1) % p },
+            b: top,
+        },
         source: rest,
     }
 }
@@ -100,10 +111,11 @@ fn offer_of(most: usize, message: Message, word: u16, candidate: Candidate) -> O
         };
     }
     let price = word as u32 - 1;
+    let Function { kind, a, b } = candidate.function;
     Offer {
         place: message.destination * most + (candidate.source - 1),
         cost: message.cost + message.link as u32 + price,
-        way: (256 * message.sender + 64 * candidate.kind + 8 * candidate.a + candidate.b) as u16,
+        way: (256 * message.sender + 64 * usize::from(kind) + 8 * a + b) as u16,
     }
 }
 
@@ -159,16 +171,12 @@ pub fn hear(
 {
     tested(&gateway, message, costs.len(), ways.len(), waiting.len())?;
     let p = gateway.p;
-    let grids = [gateway.convert, gateway.wrap, gateway.unwrap];
     let top = (message.number - 1) % p;
     let rest = (message.number - 1) / p;
     let mut count: usize = 0;
     for i in 0..2 * p + 1 {
         let candidate = candidate_of(p, message.number, top, rest, i);
-        let kind = candidate.kind;
-        let a = candidate.a;
-        let b = candidate.b;
-        let word = grids[kind][a][b];
+        let word = gateway.word(candidate.function);
         let offer = offer_of(gateway.most, message, word, candidate);
         let place = offer.place;
         if offer.cost < costs[place] {

@@ -39,8 +39,5 @@ returns-then-p-i c = unwraps_by _ _ _ _ _ c.requires c.if-p-i.true
 pub returns-then-rest-lt1 : goal.returns-then-rest-lt1
 returns-then-rest-lt1 c = none_by _ _ _ _ _ c.requires c.if-i-p.false c.if-p-i.false c.if-rest-lt1.true
 
-pub nonzero_rem-result : goal.nonzero_rem-result
-nonzero_rem-result c = c.requires.turns.some
-
-pub returns : goal.returns
-returns c = wraps_by _ _ _ _ _ c.requires c.if-i-p.false c.if-p-i.false
+pub returns-else-rest-lt1 : goal.returns-else-rest-lt1
+returns-else-rest-lt1 c = wraps_by _ _ _ _ _ c.requires c.if-i-p.false c.if-p-i.false

@@ -1,6 +1,5 @@
 -- `hear::hear` meets its contract: a refusal, or the loop, whose invariant is that the first i candidates have made their offers.
 use mathlib.Core.Path.{refl}
-use mathlib.Core.List.{[], ◌∷◌}
 use native.Mathlib.Omega.{arith}
 use Rattle.hear.specs.Answers.{rows_of}
 use Rattle.hear.specs.Handed.{gateway_seen, message_seen}
@@ -31,8 +30,8 @@ offers c =
     record {
       heeds = l.invariant;
       low = omega arith;
-      is = offered a.gateway.p a.gateway.most a.gateway.neighbours (a.gateway.convert ∷ a.gateway.wrap ∷ a.gateway.unwrap ∷ []) m l.i c.candidate_of-candidate.result c.offer_of-offer.result
-          (its_turn _ _ _ _ _ _ c.loop-i.invariant (omega arith)) c.candidate_of-candidate.ensures c.offer_of-offer.ensures;
+      is = offered (gateway_seen a.gateway) m l.i c.word-word.result c.candidate_of-candidate.result c.offer_of-offer.result
+          c.candidate_of-candidate.ensures c.word-word.ensures c.offer_of-offer.ensures;
     }
 
 pub returns-in_err-tested : goal.returns-in_err-tested
@@ -76,23 +75,10 @@ overflow_add-i-end c = omega (arith, (begins (goal.at.overflow_add-i-end c).In_o
 pub candidate_of-candidate-requires : goal.candidate_of-candidate-requires
 candidate_of-candidate-requires c = record { turns = turned (goal.at.candidate_of-candidate-requires c).In-loop-i; tops = refl; rests = refl }
 
-pub offset_bounds-grids-kind : goal.offset_bounds-grids-kind
-offset_bounds-grids-kind c = omega (arith, parts (goal.at.offset_bounds-grids-kind c).After-candidate_of-candidate)
-
-pub offset_bounds-grids-a : goal.offset_bounds-grids-a
-offset_bounds-grids-a c = omega (arith, parts (goal.at.offset_bounds-grids-a c).After-candidate_of-candidate)
-
-pub offset_bounds-grids-b : goal.offset_bounds-grids-b
-offset_bounds-grids-b c = omega (arith, parts (goal.at.offset_bounds-grids-b c).After-candidate_of-candidate)
-
-pub bounds-grids-kind : goal.bounds-grids-kind
-bounds-grids-kind c = (parts (goal.at.bounds-grids-kind c).After-candidate_of-candidate).kinds
-
-pub bounds-grids-a : goal.bounds-grids-a
-bounds-grids-a c = (parts (goal.at.bounds-grids-a c).After-candidate_of-candidate).firsts
-
-pub bounds-grids-b : goal.bounds-grids-b
-bounds-grids-b c = (parts (goal.at.bounds-grids-b c).After-candidate_of-candidate).seconds
+pub word-word-requires : goal.word-word-requires
+word-word-requires c =
+    let d = parts (goal.at.word-word-requires c).After-candidate_of-candidate in
+    (d.firsts, d.seconds)
 
 pub offer_of-offer-requires : goal.offer_of-offer-requires
 offer_of-offer-requires c =
@@ -103,7 +89,6 @@ offer_of-offer-requires c =
       sends = h.numbers_good.sends;
       known = h.numbers_good.known;
       priced = h.lengths_good.priced;
-      kinds = d.kinds;
       firsts = d.firsts;
       seconds = d.seconds;
     }
