@@ -10,12 +10,12 @@ use Rattle.bits.specs.Bits.{with_all}
 use Rattle.hear.specs.Hearing.{Gateway, Message, Rows}
 use Rattle.hear.specs.Answers.{rows_of, Hears}
 use Rattle.hear.specs.Steps.{candidate_of, candidate_function, offer_of, Turn}
-use Rattle.std.specs.Prelude.{Ok}
+use Rattle.std.specs.Prelude.{Ok, Option, Some, None}
 use Rattle.hear.specs.declared.Candidate.{Candidate}
 use Rattle.hear.specs.declared.Offer.{Offer}
 use Rattle.hear.proofs.Candidates.{Candid, candid}
 use Rattle.hear.proofs.Below.{rows_below, taken_below, Came, rows_none, taken_none, rows_all, taken_all, rows_long}
-use Rattle.hear.proofs.Step.{rows_with, offer_in, offer_inside, idle, takes_it}
+use Rattle.hear.proofs.Step.{rows_with, offer_in, offer_inside, idle_none, idle, takes_it}
 use Rattle.hear.proofs.Answers.{Passed, refused, passed, finished}
 
 module _ (g : Gateway) (m : Message) (r : Rows) where
@@ -53,17 +53,28 @@ module _ (g : Gateway) (m : Message) (r : Rows) where
         let n = h.passes.numbers_good in
         record { some = n.some; few = n.few; numbered = n.numbered; bounded = omega (arith, n.within, n.bounded); turn = omega arith }
 
+-- the candidate in turn makes no offer
+pub passes_by : (g : Gateway) (m : Message) (r s : Rows) (i count : ℕ) → Heeds g m r s i count → i < 2 * g.p + 1 → None ≡ offer_in g m i
+    → Heeds g m r s (i + 1) count
+passes_by g m r s i count h low e =
+    let n = h.passes.numbers_good in
+    let d = idle_none g m i (its_turn g m r s i count h low) n.within n.bounded r h.passes.lengths_good.wide e in
+    record {
+      passes = h.passes;
+      unrefused = h.unrefused;
+      few = omega (arith, h.few);
+      came = record { rows = h.came.rows ∙ d.0; counts = h.came.counts ∙ d.1 };
+    }
+
 -- the candidate in turn makes the offer o
 pub record Offers (g : Gateway) (m : Message) (r s : Rows) (i count : ℕ) (o : Offer) : Type 0 where
   pub heeds : Heeds g m r s i count
   pub low : i < 2 * g.p + 1
-  pub is : o ≡ offer_in g m i
+  pub is : Some o ≡ offer_in g m i
 
 module _ {g : Gateway} {m : Message} {r s : Rows} {i count : ℕ} {o : Offer} (q : Offers g m r s i count o) where
   within : (long : ℕ) → (m.destination + 1) * g.most ≤ long → o.place < long
-  within long wide =
-      let n = q.heeds.passes.numbers_good in
-      subst (λ (x : Offer). x.place < long) (sym q.is) (offer_inside g m i long (omega (arith, n.numbered, n.within)) wide)
+  within long wide = offer_inside g m i long o q.is wide
 
   -- the offer's place is one in each list
   near : o.place < 524288
@@ -82,9 +93,8 @@ module _ {g : Gateway} {m : Message} {r s : Rows} {i count : ℕ} {o : Offer} (q
   stays high =
       let h = q.heeds in
       let n = h.passes.numbers_good in
-      let d = idle g m i (its_turn g m r s i count h q.low) n.within n.bounded r h.passes.lengths_good.wide
-      (subst (λ (x : Offer). get_or (rows_below g m i r).costs x.place 0 ≤ x.cost) q.is
-      (subst (λ (t : Rows). get_or t.costs o.place 0 ≤ o.cost) h.came.rows high)) in
+      let d = idle g m i (its_turn g m r s i count h q.low) n.within n.bounded r h.passes.lengths_good.wide o q.is
+      (subst (λ (t : Rows). get_or t.costs o.place 0 ≤ o.cost) h.came.rows high) in
       record {
         passes = h.passes;
         unrefused = h.unrefused;
@@ -93,22 +103,21 @@ module _ {g : Gateway} {m : Message} {r s : Rows} {i count : ℕ} {o : Offer} (q
       }
 
   pub gains : (w : ℕ) → w ≡ with_all (get_or s.waiting o.place 0) g.neighbours
-      → o.cost < get_or s.costs o.place 0 → get_or s.costs o.place 0 < 4294967296
+      → o.cost < get_or s.costs o.place 0
       → Heeds g m r (record { costs = set s.costs o.place o.cost; ways = set s.ways o.place o.way; waiting = set s.waiting o.place w })
       (i + 1) (count + 1)
-  gains w e less fits =
+  gains w e less =
       let h = q.heeds in
       let n = h.passes.numbers_good in
-      let won = subst (λ (x : Offer). (x.cost < get_or (rows_below g m i r).costs x.place 0) × (get_or (rows_below g m i r).costs x.place 0 < 4294967296)) q.is
-      (subst (λ (t : Rows). (o.cost < get_or t.costs o.place 0) × (get_or t.costs o.place 0 < 4294967296)) h.came.rows (less, fits)) in
-      let d = takes_it g m i (its_turn g m r s i count h q.low) n.within n.bounded r h.passes.lengths_good.wide won.0 won.1 in
+      let won = subst (λ (t : Rows). o.cost < get_or t.costs o.place 0) h.came.rows less in
+      let d = takes_it g m i (its_turn g m r s i count h q.low) n.within n.bounded r h.passes.lengths_good.wide o q.is won in
       record {
         passes = h.passes;
         unrefused = h.unrefused;
         few = omega (arith, h.few);
         came = record {
           rows = ap (λ (x : ℕ). rows_of (set s.costs o.place o.cost) (set s.ways o.place o.way) (set s.waiting o.place x)) e
-              ∙ ap (λ (x : Offer). rows_with x g.neighbours s) q.is ∙ ap (rows_with (offer_in g m i) g.neighbours) h.came.rows ∙ d.0;
+              ∙ ap (rows_with o g.neighbours) h.came.rows ∙ d.0;
           counts = omega (arith, h.came.counts, d.1);
         };
       }
@@ -123,7 +132,7 @@ small p number i c z is =
     let d = subst (Candid p number i) (sym is) (candid p number i z.some z.turn) in
     record { firsts = omega (arith, d.firsts, z.few); seconds = omega (arith, d.seconds, z.few) }
 
-pub offered : (g : Gateway) (m : Message) (i w : ℕ) (c : Candidate) (o : Offer) → c ≡ candidate_of g.p m.number i → w ≡ g.words (candidate_function c)
+pub offered : (g : Gateway) (m : Message) (i w : ℕ) (c : Candidate) (o : Option Offer) → c ≡ candidate_of g.p m.number i → w ≡ g.words (candidate_function c)
     → o ≡ offer_of g.most m.sender m.destination m.cost m.link w c → o ≡ offer_in g m i
 offered g m i w c o is word e =
     e ∙ ap (λ (x : ℕ). offer_of g.most m.sender m.destination m.cost m.link x c) word

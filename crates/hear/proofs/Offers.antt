@@ -8,6 +8,7 @@ use lib.Dec.{leb, ltb}
 use mir.Syntax.{w16, w32, w64}
 use mir.Val.{Fits}
 use borrow.Author.Tests.{ltb-true, leb-true}
+use Rattle.std.specs.Prelude.{Some, None}
 use Rattle.lists.proofs.Tests.{both}
 use Rattle.hear.specs.Steps.{place_of, offer_of, Priced}
 use Rattle.functions.specs.Parts.{kind_number}
@@ -37,21 +38,21 @@ module _ (most word : ℕ) (c : Candidate) where
       record { has = ltb-true 0 word a.0; some = leb-true 1 c.source b.0; low = leb-true c.source most b.1 }
 
   module _ (sender destination cost link : ℕ) where
-    pub none : tested ≡ false → record { place = 0; cost = 4294967295; way = 65535 } ≡ offer_of most sender destination cost link word c
+    pub none : tested ≡ false → None ≡ offer_of most sender destination cost link word c
     unfolding offer_of
     none e = simp (sym same ∙ e)
 
     pub made : (k : ℕ) → k ≡ kind_number c.function.kind → tested ≡ true
-        → record {
+        → Some (record {
           place = place_of most destination c.source;
           cost = cost + link + (word - 1);
           way = 256 * sender + 64 * k + 8 * c.function.a + c.function.b;
-        }
+        })
         ≡ offer_of most sender destination cost link word c
     unfolding offer_of
     made k is e =
         simp (sym same ∙ e)
-        (ap (λ (y : ℕ). record { place = place_of most destination c.source; cost = cost + link + (word - 1); way = y }) (omega arith))
+        (ap (λ (y : ℕ). Some (record { place = place_of most destination c.source; cost = cost + link + (word - 1); way = y })) (omega arith))
 
 -- the numbers on the way to the place, to the cost and to the way
 pub record OfferFits (most sender destination cost link word k : ℕ) (c : Candidate) : Type 0 where

@@ -1,13 +1,14 @@
 -- One candidate's offer is one step of `heard`: of the functions that lead to the heard stack it alone is in turn, from its stack alone, so one row can change.
 use Prim.Native.Nat.{ℕ, ◌+◌, ◌-◌, ◌*◌, ◌/◌, ◌%◌, ◌≤◌, ◌<◌}
 use native.Mathlib.Omega.{arith}
-use mathlib.Core.Path.{◌≡◌, sym, ap, ◌∙◌, subst}
-use mathlib.Core.Bool.{Bool, true, false, ◌&&◌, and-false}
+use mathlib.Core.Path.{◌≡◌, refl, sym, ap, ◌∙◌, subst}
+use mathlib.Core.Bool.{Bool, true, false, cond, ◌&&◌, and-false}
 use lib.ListN.{length, get_or, set}
 use lib.Dec.{leb, ltb}
 use borrow.Author.Tests.{ltb-true, leb-true, eq-eqb, lt-ltb, le-ltb, le-leb}
+use Rattle.std.specs.Prelude.{Option, Some, None}
 use Rattle.lists.specs.Lists.{how_many, one}
-use Rattle.lists.proofs.Tests.{bool_cases, both}
+use Rattle.lists.proofs.Tests.{both}
 use Rattle.lists.proofs.Tables.{get_or_tabulate, set_tabulate}
 use Rattle.lists.proofs.Counts.{how_many_more}
 use Rattle.relax.specs.Graph.{wins}
@@ -34,20 +35,39 @@ abbrev pub in_turn : Gateway → Message → ℕ → Candidate
 in_turn g m i = candidate_of g.p m.number i
 
 -- and what it offers
-abbrev pub offer_in : Gateway → Message → ℕ → Offer
+abbrev pub offer_in : Gateway → Message → ℕ → Option Offer
 offer_in g m i = offer_of g.most m.sender m.destination m.cost m.link (g.words (candidate_function (in_turn g m i))) (in_turn g m i)
 
--- its place is one, where there are rows
-pub offer_inside : (g : Gateway) (m : Message) (i long : ℕ) → 1 ≤ g.most → (m.destination + 1) * g.most ≤ long → (offer_in g m i).place < long
+cond_some : {A : Type 0} (b : Bool) (x o : A) → Some o ≡ cond b (Some x) None → (b ≡ true) × (o ≡ x)
+cond_some true x o e = (refl, (cc))
+cond_some false x o e = absurd (let z : ◌≡◌ {A = ℕ} 0 1 = cc in omega arith)
+
+-- an offer is the one of its candidate, which the gateway has and whose stack is there
+pub record Real (g : Gateway) (m : Message) (i : ℕ) (o : Offer) : Type 0 where
+  pub has : 0 < g.words (candidate_function (in_turn g m i))
+  pub some : 1 ≤ (in_turn g m i).source
+  pub low : (in_turn g m i).source ≤ g.most
+  pub is : o ≡ record {
+    place = place_of g.most m.destination (in_turn g m i).source;
+    cost = m.cost + m.link + (g.words (candidate_function (in_turn g m i)) - 1);
+    way = 256 * m.sender + candidate_function (in_turn g m i);
+  }
+
+pub real : (g : Gateway) (m : Message) (i : ℕ) (o : Offer) → Some o ≡ offer_in g m i → Real g m i o
 unfolding offer_of
-offer_inside g m i long some wide =
+real g m i o e =
     let n = (in_turn g m i).source in
     let f = candidate_function (in_turn g m i) in
-    bool_cases (ltb 0 (g.words f) && (leb 1 n && leb n g.most))
-    (λ e.
-    let b = both (leb 1 n) (leb n g.most) (both (ltb 0 (g.words f)) (leb 1 n && leb n g.most) e).1 in
-    simp e (place_within g.most m.destination n long (leb-true 1 n b.0) (leb-true n g.most b.1) wide))
-    (λ e. simp e (omega (arith, place_within g.most m.destination 1 long (omega arith) some wide)))
+    let q = cond_some (ltb 0 (g.words f) && (leb 1 n && leb n g.most)) _ o e in
+    let a = both (ltb 0 (g.words f)) (leb 1 n && leb n g.most) q.0 in
+    let b = both (leb 1 n) (leb n g.most) a.1 in
+    record { has = ltb-true 0 (g.words f) a.0; some = leb-true 1 n b.0; low = leb-true n g.most b.1; is = q.1 }
+
+-- its place is one in the rows
+pub offer_inside : (g : Gateway) (m : Message) (i long : ℕ) (o : Offer) → Some o ≡ offer_in g m i → (m.destination + 1) * g.most ≤ long → o.place < long
+offer_inside g m i long o e wide =
+    let q = real g m i o e in
+    subst (λ (x : Offer). x.place < long) (sym q.is) (place_within g.most m.destination (in_turn g m i).source long q.some q.low wide)
 
 module _ (g : Gateway) (m : Message) (i : ℕ) (z : Turn g.p m.number i) (within : m.number ≤ g.most) (bounded : g.most ≤ 16384)
     (r : Rows) (wide : (m.destination + 1) * g.most ≤ length r.costs) where
@@ -72,7 +92,7 @@ module _ (g : Gateway) (m : Message) (i : ℕ) (z : Turn g.p m.number i) (within
     abbrev made : Offer
     made = record { place = place; cost = m.cost + m.link + (g.words f - 1); way = 256 * m.sender + f }
 
-    pub offers : offer_in g m i ≡ made
+    offers : offer_in g m i ≡ Some made
     unfolding offer_of
     offers = simp (lt-ltb 0 (g.words f) has, le-leb 1 n some, le-leb n g.most low)
 
@@ -126,8 +146,8 @@ module _ (g : Gateway) (m : Message) (i : ℕ) (z : Turn g.p m.number i) (within
           (how_many_more (length r.costs) (takes_below g m i r.costs) (takes_below g m (i + 1) r.costs) place inside not_yet (λ j b o. elsewhere j o)
           ∙ ap (λ (t : Bool). how_many (length r.costs) (takes_below g m i r.costs) + one t) takes_now)
 
-  -- ---- the offer does not win: every row takes what it took
-  left_alone : get_or (rows_below g m i r).costs (offer_in g m i).place 0 ≤ (offer_in g m i).cost → (j : ℕ)
+  -- ---- no offer wins: every row takes what it took
+  left_alone : (0 < g.words f → 1 ≤ n → n ≤ g.most → get_or (rows_below g m i r).costs place 0 ≤ m.cost + m.link + (g.words f - 1)) → (j : ℕ)
       → takes_below g m i r.costs j ≡ takes_below g m (i + 1) r.costs j
   unfolding offer
   left_alone high j = same_takes g m i r.costs j (λ t e.
@@ -140,32 +160,30 @@ module _ (g : Gateway) (m : Message) (i : ℕ) (z : Turn g.p m.number i) (within
       let less : m.cost + m.link + (g.words f - 1) < get_or r.costs place 0 =
       subst (λ (x : ℕ). m.cost + m.link + (g.words f - 1) < get_or r.costs x 0) (place_only g.most m.destination n j t.there o.1)
       (subst (λ (y : ℕ). m.cost + m.link + (g.words y - 1) < get_or r.costs j 0) o.0 t.less) in
-      let kept : get_or (rows_below g m i r).costs place 0 ≤ m.cost + m.link + (g.words f - 1) =
-      subst (λ (x : Offer). get_or (rows_below g m i r).costs x.place 0 ≤ x.cost) (offers has some low) high in
-      omega (arith, still has some low))
+      omega (arith, still has some low, high has some low))
 
-  pub idle : get_or (rows_below g m i r).costs (offer_in g m i).place 0 ≤ (offer_in g m i).cost
-      → (rows_below g m i r ≡ rows_below g m (i + 1) r) × (taken_below g m i r ≡ taken_below g m (i + 1) r)
-  idle high = (rows_same g m i r (left_alone high), taken_same g m i r (left_alone high))
+  abbrev Idle : Type 0
+  Idle = (rows_below g m i r ≡ rows_below g m (i + 1) r) × (taken_below g m i r ≡ taken_below g m (i + 1) r)
 
-  -- ---- the offer wins: so it is one, and its row takes it
+  -- where there is none, and where it is not below the row's cost
+  pub idle_none : None ≡ offer_in g m i → Idle
+  idle_none e =
+      let never : 0 < g.words f → 1 ≤ n → n ≤ g.most → get_or (rows_below g m i r).costs place 0 ≤ m.cost + m.link + (g.words f - 1) =
+      λ has some low. absurd (let off = e ∙ offers has some low in let o : ◌≡◌ {A = ℕ} 0 1 = cc in omega arith) in
+      (rows_same g m i r (left_alone never), taken_same g m i r (left_alone never))
+
+  pub idle : (o : Offer) → Some o ≡ offer_in g m i → get_or (rows_below g m i r).costs o.place 0 ≤ o.cost → Idle
+  idle o e high =
+      let q = real g m i o e in
+      let kept = subst (λ (x : Offer). get_or (rows_below g m i r).costs x.place 0 ≤ x.cost) q.is high in
+      (rows_same g m i r (left_alone (λ has some low. kept)), taken_same g m i r (left_alone (λ has some low. kept)))
+
+  -- ---- the offer wins, and its row takes it
   abbrev Taken : Offer → Type 0
   Taken o = (rows_with o g.neighbours (rows_below g m i r) ≡ rows_below g m (i + 1) r) × (taken_below g m i r + 1 ≡ taken_below g m (i + 1) r)
 
-  none_wins : (ltb 0 (g.words f) && (leb 1 n && leb n g.most)) ≡ false → (offer_in g m i).cost ≡ 4294967295
-  unfolding offer_of
-  none_wins e = simp e
-
-  pub takes_it : (offer_in g m i).cost < get_or (rows_below g m i r).costs (offer_in g m i).place 0
-      → get_or (rows_below g m i r).costs (offer_in g m i).place 0 < 4294967296 → Taken (offer_in g m i)
-  takes_it less fits = bool_cases (ltb 0 (g.words f) && (leb 1 n && leb n g.most))
-      (λ e.
-      let a = both (ltb 0 (g.words f)) (leb 1 n && leb n g.most) e in
-      let b = both (leb 1 n) (leb n g.most) a.1 in
-      let has = ltb-true 0 (g.words f) a.0 in
-      let some = leb-true 1 n b.0 in
-      let low = leb-true n g.most b.1 in
-      let is = offers has some low in
-      let won = subst (λ (x : Offer). x.cost < get_or (rows_below g m i r).costs x.place 0) is less in
-      subst Taken (sym is) (rows_set has some low won, taken_one has some low won))
-      (λ e. absurd (omega (arith, none_wins e)))
+  pub takes_it : (o : Offer) → Some o ≡ offer_in g m i → o.cost < get_or (rows_below g m i r).costs o.place 0 → Taken o
+  takes_it o e less =
+      let q = real g m i o e in
+      let won = subst (λ (x : Offer). x.cost < get_or (rows_below g m i r).costs x.place 0) q.is less in
+      subst Taken (sym q.is) (rows_set q.has q.some q.low won, taken_one q.has q.some q.low won)

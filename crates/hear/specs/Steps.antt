@@ -1,5 +1,5 @@
 -- What the private functions answer, and what they may count on.
-use Rattle.std.specs.Prelude.{ℕ, ◌+◌, ◌-◌, ◌*◌, ◌≤◌, ◌<◌, ◌≡◌, cond, ◌&&◌, ltb}
+use Rattle.std.specs.Prelude.{ℕ, ◌+◌, ◌-◌, ◌*◌, ◌≤◌, ◌<◌, ◌≡◌, cond, ◌&&◌, ltb, Option, Some, None}
 use Rattle.stacks.specs.Stacks.{one_to, top, rest}
 use Rattle.hear.specs.Answers.{ceiling}
 use Rattle.functions.specs.declared.Kind.{Kind}
@@ -28,12 +28,12 @@ candidate_function candidate = function_number candidate.function
 abbrev pub place_of : ℕ → ℕ → ℕ → ℕ
 place_of most destination n = destination * most + (n - 1)
 
--- what a candidate with this word offers to its row; where the gateway can't or there is no such row, what no row takes
-unfoldable pub offer_of : ℕ → ℕ → ℕ → ℕ → ℕ → ℕ → Candidate → Offer
+-- what a candidate with this word offers to its row; nothing where the gateway can't or there is no such row
+unfoldable pub offer_of : ℕ → ℕ → ℕ → ℕ → ℕ → ℕ → Candidate → Option Offer
 offer_of most sender destination cost link word candidate =
     cond (ltb 0 word && one_to most candidate.source)
-    (record { place = place_of most destination candidate.source; cost = cost + link + (word - 1); way = 256 * sender + candidate_function candidate })
-    (record { place = 0; cost = 4294967295; way = 65535 })
+    (Some (record { place = place_of most destination candidate.source; cost = cost + link + (word - 1); way = 256 * sender + candidate_function candidate }))
+    None
 
 -- ---- what the private functions may count on
 -- a heard number, and a candidate's turn

@@ -97,26 +97,21 @@ fn candidate_of(p: usize, number: usize, top: usize, rest: usize, i: usize) -> C
     }
 }
 
-// What a candidate with this word offers; cost "no row", which no row takes, where the gateway can't or there is no such stack within the
-// height bound.
-fn offer_of(most: usize, message: Message, word: u16, candidate: Candidate) -> Offer
+// What a candidate with this word offers; nothing where the gateway can't or there is no such stack within the height bound.
+fn offer_of(most: usize, message: Message, word: u16, candidate: Candidate) -> Option<Offer>
     requires { Priced most message.sender message.destination message.cost candidate }
     ensures { result ≡ offer_of most message.sender message.destination message.cost message.link word candidate }
 {
     if !((0 < word) & (1 <= candidate.source) & (candidate.source <= most)) {
-        return Offer {
-            place: 0,
-            cost: 4294967295, // no row
-            way: 65535, // no way
-        };
+        return None;
     }
     let price = word as u32 - 1;
     let Function { kind, a, b } = candidate.function;
-    Offer {
+    Some(Offer {
         place: message.destination * most + (candidate.source - 1),
         cost: message.cost + message.link as u32 + price,
         way: (256 * message.sender + 64 * usize::from(kind) + 8 * a + b) as u16,
-    }
+    })
 }
 
 // Whether the numbers are in range, the rows enough and the cost no more than the ceiling.
@@ -177,7 +172,9 @@ pub fn hear(
     for i in 0..2 * p + 1 {
         let candidate = candidate_of(p, message.number, top, rest, i);
         let word = gateway.word(candidate.function);
-        let offer = offer_of(gateway.most, message, word, candidate);
+        let Some(offer) = offer_of(gateway.most, message, word, candidate) else {
+            continue;
+        };
         let place = offer.place;
         if offer.cost < costs[place] {
             costs[place] = offer.cost;

@@ -4,12 +4,12 @@ use native.Mathlib.Omega.{arith}
 use Rattle.hear.specs.Answers.{rows_of}
 use Rattle.hear.specs.Handed.{gateway_seen, message_seen}
 use Rattle.hear.specs.Steps.{Turn}
-use Rattle.std.proofs.Common.{rules, ◌≡◌, Err}
+use Rattle.std.proofs.Common.{rules, ◌≡◌, Err, Some, None}
 use Rattle.refusal.proofs.Answers.{answered_ok, answered_err}
 use Rattle.hear.proofs.Answers.{refused, refuses}
-use Rattle.hear.proofs.Loop.{Heeds, starts, ends, its_turn, Offers, near_4, inside, stays, gains, Small, small, offered}
+use Rattle.hear.proofs.Loop.{Heeds, starts, ends, its_turn, Offers, near_4, inside, stays, gains, Small, small, offered, passes_by}
 use Rattle.hear.proofs.hear.Goals as goal
-use Rattle.hear.proofs.hear.Goals.{After-candidate_of-candidate, After-offer_of-offer, In_ok-tested, In-loop-i, then-offer-costs, else-offer-costs}
+use Rattle.hear.proofs.hear.Goals.{After-candidate_of-candidate, In-Some, In_ok-tested, In-loop-i, then-offer-costs, else-offer-costs}
 
 -- the candidate in turn, and its offer
 turned : (c : In-loop-i) → let a = c.args in Turn a.gateway.p a.message.number c.loop-i.i
@@ -20,9 +20,9 @@ parts c =
     let a = c.args in
     small a.gateway.p a.message.number c.loop-i.i c.candidate_of-candidate.result (turned c.before) c.candidate_of-candidate.ensures
 
-offers : (c : After-offer_of-offer) → let a = c.args in let l = c.loop-i in
+offers : (c : In-Some) → let a = c.args in let l = c.loop-i in
     Offers (gateway_seen a.gateway) (message_seen a.message)
-    (rows_of a.costs.now a.ways.now a.waiting.now) (rows_of l.costs l.ways l.waiting) l.i l.count c.offer_of-offer.result
+    (rows_of a.costs.now a.ways.now a.waiting.now) (rows_of l.costs l.ways l.waiting) l.i l.count c.in-Some.offer
 offers c =
     let l = c.loop-i in
     let a = c.args in
@@ -30,8 +30,8 @@ offers c =
     record {
       heeds = l.invariant;
       low = omega arith;
-      is = offered (gateway_seen a.gateway) m l.i c.word-word.result c.candidate_of-candidate.result c.offer_of-offer.result
-          c.candidate_of-candidate.ensures c.word-word.ensures c.offer_of-offer.ensures;
+      is = offered (gateway_seen a.gateway) m l.i c.word-word.result c.candidate_of-candidate.result (Some c.in-Some.offer)
+          c.candidate_of-candidate.ensures c.word-word.ensures c.in-Some.ensures;
     }
 
 pub returns-in_err-tested : goal.returns-in_err-tested
@@ -80,9 +80,9 @@ word-word-requires c =
     let d = parts (goal.at.word-word-requires c).After-candidate_of-candidate in
     (d.firsts, d.seconds)
 
-pub offer_of-offer-requires : goal.offer_of-offer-requires
-offer_of-offer-requires c =
-    let d = parts (goal.at.offer_of-offer-requires c).After-candidate_of-candidate in
+pub offer_of-requires : goal.offer_of-requires
+offer_of-requires c =
+    let d = parts (goal.at.offer_of-requires c).After-candidate_of-candidate in
     let h = c.loop-i.invariant.passes in
     record {
       bounded = h.numbers_good.bounded;
@@ -94,17 +94,24 @@ offer_of-offer-requires c =
     }
 
 pub offset_bounds-costs-place : goal.offset_bounds-costs-place
-offset_bounds-costs-place c = near_4 (offers (goal.at.offset_bounds-costs-place c).After-offer_of-offer)
+offset_bounds-costs-place c = near_4 (offers (goal.at.offset_bounds-costs-place c).In-Some)
 
 pub bounds-costs-place : goal.bounds-costs-place
-bounds-costs-place c = inside (offers (goal.at.bounds-costs-place c).After-offer_of-offer)
+bounds-costs-place c = inside (offers (goal.at.bounds-costs-place c).In-Some)
+
+pub loop-i-preserved-in_default : goal.loop-i-preserved-in_default
+loop-i-preserved-in_default c =
+    let a = c.args in
+    let none = offered (gateway_seen a.gateway) (message_seen a.message) c.loop-i.i c.word-word.result c.candidate_of-candidate.result None
+    c.candidate_of-candidate.ensures c.word-word.ensures c.in_default.ensures in
+    passes_by _ _ _ _ _ _ c.loop-i.invariant (omega arith) none
 
 pub loop-i-preserved : goal.loop-i-preserved
 loop-i-preserved c =
-    let q = offers (goal.at.loop-i-preserved c).After-offer_of-offer in
+    let q = offers (goal.at.loop-i-preserved c).In-Some in
     elim c.if-offer-costs.branch [
       | then-offer-costs w ↦ rw (w.costs-is, w.ways-is, w.waiting-is, w.count-is)
-          (gains q w.with_all.result w.with_all.ensures (omega arith) (c.slice_known-in-loop-i-1.given c.offer_of-offer.result.place).fits)
+          (gains q w.with_all.result w.with_all.ensures (omega arith))
       | else-offer-costs w ↦ rw (w.costs-is, w.ways-is, w.waiting-is, w.count-is) (stays q (omega arith))
     ]
 
