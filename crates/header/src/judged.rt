@@ -1,22 +1,21 @@
 // Whether the header at s is right, test by test in the order of the refusals; e is where what holds it ends.
 ghost use Rattle.std.specs.Prelude.{◌≡◌, ◌+◌, ◌*◌, ◌≤◌, ◌<◌, length};
 ghost use Rattle.header.specs.Fields.{ok_version, sum};
-ghost use Rattle.header.specs.Answers.{answered, rest_refusal};
+ghost use Rattle.header.specs.Answers.{rest_refusal};
+ghost use Rattle.header.specs.Steps.{verdict};
 
-use crate::Header;
-use crate::fields::{announced_by, header_length, packet_length, pair_at, version_at};
+use crate::fields::{header_length, packet_length, pair_at, version_at};
+use refusal::Refusal;
 
 // The one's complement sum of the first `count` 16-bit words: a carry out of the top is added at the bottom.
 fn summed(packet: &[u8], s: usize, count: usize) -> usize
     requires { (s + 2 * count ≤ length packet.now) × (count ≤ 30) }
     ensures { result ≡ sum packet.now s count }
 {
-    let mut total: usize = 0;
-    let mut i: usize = 0;
-    while i < count {
+    let mut total = 0;
+    for i in 0..count {
         let both = total + pair_at(packet, s, 2 * i);
         total = both % 65536 + both / 65536;
-        i += 1;
     }
     total
 }
@@ -33,29 +32,26 @@ pub(crate) fn version_fits(packet: &[u8], s: usize, announced: usize) -> bool
 }
 
 // The tests from the header length on. (Version 6 passes those of the header length: its header has 40 bytes, and its packet as many or more.)
-pub(crate) fn rest_judged(packet: &[u8], s: usize, e: usize) -> Header
+pub(crate) fn rest_judged(packet: &[u8], s: usize, e: usize) -> Result<(), Refusal>
     requires { (s + 20 ≤ e) × (e ≤ length packet.now) }
-    ensures { result ≡ answered packet.now s (rest_refusal packet.now s e) }
+    ensures { result ≡ verdict (rest_refusal packet.now s e) }
 {
     let header = header_length(packet, s);
     let long = packet_length(packet, s);
     if (header < 20) | (long < header) {
-        return Header::Refused(63);
+        return Err(Refusal::Header);
     }
     if e - s < long {
-        return Header::Refused(64);
+        return Err(Refusal::Beyond);
     }
-    let from = s + header;
-    let to = s + long;
-    let after = announced_by(packet, s);
     if version_at(packet, s) == 6 {
-        return Header::Right(1, from, to, after);
+        return Ok(());
     }
-    if summed(packet, s, header / 2) == 65535 {
-        if pair_at(packet, s, 6) % 16384 == 0 {
-            return Header::Right(0, from, to, after);
-        }
-        return Header::Refused(66);
+    if summed(packet, s, header / 2) != 65535 {
+        return Err(Refusal::Checksum);
     }
-    Header::Refused(65)
+    if pair_at(packet, s, 6) % 16384 != 0 {
+        return Err(Refusal::Fragment);
+    }
+    Ok(())
 }
