@@ -1,5 +1,5 @@
--- What `header_at` answers at each return, and what its answers say of the header, over plain variables.
-use Prim.Native.Nat.{ℕ, ◌+◌, ◌≤◌}
+-- What the answers of `header_at` say of the header.
+use Prim.Native.Nat.{ℕ, ◌≤◌}
 use mathlib.Core.Path.{◌≡◌, refl, ◌∙◌}
 use mathlib.Core.List.{List}
 use mathlib.Core.Bool.{Bool, true, false, cond}
@@ -9,32 +9,10 @@ use borrow.Author.Tests.{eqb-true, eqb-false, le-leb, leb-true}
 use Rattle.std.specs.Prelude.{Ok, Err}
 use Rattle.refusal.specs.declared.Refusal.{Refusal}
 use Rattle.refusal.specs.Numbers.{named}
-use Rattle.header.specs.Fields.{announces, protocol, next, header_length, packet_length, inside, end}
-use Rattle.header.specs.Answers.{header_refusal, refusal_of, read_at, answered, header_of}
-use Rattle.header.specs.Steps.{verdict}
+use Rattle.header.specs.Fields.{announces, protocol, next, inside, end}
+use Rattle.header.specs.Answers.{header_refusal, refusal_of, read_at, header_of}
 use Rattle.header.specs.declared.Header.{Header}
 use Rattle.header.proofs.Rightness.{passed}
-
--- ---- what the verdict of the tests says
-pub verdict_ok : (x : ℕ) → Ok (tt {0}) ≡ verdict x → x ≡ 0
-verdict_ok x d = go (eqb x 0) refl d
-  where
-    go : (fine : Bool) → eqb x 0 ≡ fine → Ok (tt {0}) ≡ cond fine (Ok (tt {0})) (Err (named x)) → x ≡ 0
-    go true z q = eqb-true x 0 z
-    go false z q = cc
-
-pub verdict_err : (packet : List ℕ) (s x : ℕ) (r : Refusal) → Err r ≡ verdict x → Err r ≡ answered packet s x
-verdict_err packet s x r d = go (eqb x 0) d
-  where
-    go : (fine : Bool) → Err r ≡ cond fine (Ok (tt {0})) (Err (named x)) → Err r ≡ cond fine (Ok (read_at packet s)) (Err (named x))
-    go true q = cc
-    go false q = cc
-
--- a header without a refusal
-pub passes : (packet : List ℕ) (s : ℕ) {r q header long after : ℕ} → r ≡ 0 → q ≡ protocol packet s → header ≡ header_length packet s
-    → long ≡ packet_length packet s
-    → after ≡ announces (next packet s) → Ok (record { protocol = q; from = s + header; to = s + long; after = after }) ≡ answered packet s r
-passes packet s fine is_q is_header is_long is_after = rw (fine, is_q, is_header, is_long, is_after) refl
 
 module _ (packet : List ℕ) (s announced e : ℕ) where
   pub as_held : e ≤ length packet → refusal_of packet s announced e ≡ header_refusal packet s announced e
@@ -45,14 +23,11 @@ module _ (packet : List ℕ) (s announced e : ℕ) where
   unfolding refusal_of
   held fine = let p = passed (leb e (length packet)) 60 _ fine in (leb-true e (length packet) p.0, p.1)
 
-  -- ---- what the answers say
   pub refused_is : (r : Refusal) → Err r ≡ header_of packet s announced e
       → (r ≡ named (refusal_of packet s announced e)) × (refusal_of packet s announced e ≡ 0 → ⊥)
   refused_is r d = go (refusal_of packet s announced e) (eqb (refusal_of packet s announced e) 0) refl d
     where
-      go : (x : ℕ) (fine : Bool) → eqb x 0 ≡ fine
-          → Err r ≡ cond fine (Ok (read_at packet s)) (Err (named x))
-          → (r ≡ named x) × (x ≡ 0 → ⊥)
+      go : (x : ℕ) (fine : Bool) → eqb x 0 ≡ fine → Err r ≡ cond fine (Ok (read_at packet s)) (Err (named x)) → (r ≡ named x) × (x ≡ 0 → ⊥)
       go x true z q = cc
       go x false z q = ((cc), eqb-false x 0 z)
 
@@ -68,8 +43,6 @@ module _ (packet : List ℕ) (s announced e : ℕ) where
   right_is header d = go (refusal_of packet s announced e) refl (eqb (refusal_of packet s announced e) 0) refl d
     where
       go : (x : ℕ) → refusal_of packet s announced e ≡ x → (fine : Bool) → eqb x 0 ≡ fine
-          → Ok header ≡ cond fine
-          (Ok (read_at packet s)) (Err (named x))
-          → Passed header
+          → Ok header ≡ cond fine (Ok (read_at packet s)) (Err (named x)) → Passed header
       go x y true z same = record { fine = (held (y ∙ eqb-true x 0 z)).1; is_protocol = cc; is_inside = cc; is_end = cc; is_after = cc }
       go x y false z same = cc

@@ -7,8 +7,8 @@ ghost use Rattle.header.specs.Answers.{header_of};
 mod fields;
 mod judged;
 
-use fields::{announced_by, by_version, header_length, packet_length};
-use judged::{rest_judged, version_fits};
+use fields::{announced_by, header_length, packet_length, protocol};
+use judged::{has_room, rest_judged, version_fits};
 use refusal::Refusal;
 
 /// A header that is right.
@@ -25,13 +25,11 @@ pub struct Header {
 }
 
 // The header that starts at s, announced so (0 for the outermost), in what ends at e.
+#[tactic(auto, unfolding(crate::specs::Answers::refusal_of, crate::specs::Answers::header_refusal))]
 pub fn header_at(packet: &[u8], s: usize, announced: usize, e: usize) -> Result<Header, Refusal>
     ensures { result ≡ header_of packet.now s announced e }
 {
-    if (packet.len() < e) | (e <= s) {
-        return Err(Refusal::Short);
-    }
-    if e - s < by_version(packet, s, 20, 40) {
+    if !has_room(packet, s, e) {
         return Err(Refusal::Short);
     }
     if !version_fits(packet, s, announced) {
@@ -39,7 +37,7 @@ pub fn header_at(packet: &[u8], s: usize, announced: usize, e: usize) -> Result<
     }
     rest_judged(packet, s, e)?;
     Ok(Header {
-        protocol: by_version(packet, s, 0, 1),
+        protocol: protocol(packet, s),
         from: s + header_length(packet, s),
         to: s + packet_length(packet, s),
         after: announced_by(packet, s),
