@@ -1,21 +1,17 @@
 -- What `read_stack` answers and writes at each return, over plain variables.
-use Prim.Native.Nat.{ℕ, ◌≤◌, ◌<◌}
+use Prim.Native.Nat.{ℕ, ◌≤◌}
 use native.Mathlib.Omega.{arith}
 use mathlib.Core.Path.{◌≡◌, refl, sym, ap, ◌∙◌}
-use mathlib.Core.Logic.{⊎_elim}
 use mathlib.Core.List.{List, [], ◌++◌}
-use mathlib.Core.Bool.{Bool, true, false, cond, ◌||◌}
+use mathlib.Core.Bool.{Bool, true, cond}
 use lib.ListN.{length, drop}
-use lib.Dec.{leb, ltb}
-use borrow.Author.Tests.{le-leb, lt-leb, ltb-true, ltb-false}
-use Rattle.lists.proofs.Tests.{either}
+use lib.Dec.{leb}
 use Rattle.stacks.specs.Stacks.{number, height, ok_size}
 use Rattle.stacks.specs.Answers.{ok_out, height_of}
 use Rattle.stacks.specs.Answers as stacks
 use Rattle.stacks.proofs.Tests.{Good, good, good_ok, ok_size_yes}
 use Rattle.stacks.proofs.Outcomes.{cond_value, cond_refused}
 use Rattle.stacks.proofs.Numbers.{number_ok, stack_of_number_short, height_number}
-use Rattle.header.proofs.Judging.{neither}
 use Rattle.headers.specs.Chains.{Reading, found, refused, reading_of, follow}
 use Rattle.headers.specs.Answers.{answered, read_of, written, out_of}
 use Rattle.headers.specs.Steps.{unread, chained_of}
@@ -58,21 +54,7 @@ module _ (h : ℕ) (stack out : List ℕ) (some : 1 ≤ h) (low : h ≤ 12) (g :
 abbrev pub Answers : ℕ → List ℕ → List ℕ → Result Read Unread → List ℕ → Type 0
 Answers h packet out r left = (r ≡ read_of h packet out) × (left ≡ out_of h packet out)
 
-pub in_bound : (h : ℕ) → (ltb h 1 || ltb 12 h) ≡ false → (1 ≤ h) × (h ≤ 12)
-in_bound h good = let n = neither (ltb h 1) (ltb 12 h) good in (ltb-false h 1 n.0, ltb-false 12 h n.1)
-
 module _ (h : ℕ) (packet out : List ℕ) where
-  below_bound : h < 1 → Answers h packet out (Err (unread Refusal.Sizes 0 0)) out
-  unfolding reading_of ok_size
-  below_bound none = simp (lt-leb 1 h none) (refl, refl)
-
-  above_bound : 12 < h → Answers h packet out (Err (unread Refusal.Sizes 0 0)) out
-  unfolding reading_of ok_size
-  above_bound high = simp (le-leb 1 h (omega arith), lt-leb h 12 high) (refl, refl)
-
-  pub out_of_bound : (ltb h 1 || ltb 12 h) ≡ true → Answers h packet out (Err (unread Refusal.Sizes 0 0)) out
-  out_of_bound bad = ⊎_elim (λ b. below_bound (ltb-true h 1 b)) (λ b. above_bound (ltb-true 12 h b)) (either (ltb h 1) (ltb 12 h) bad)
-
   module _ (bounds : (1 ≤ h) × (h ≤ 12)) where
     a_bound : ok_size 2 h ≡ true
     a_bound = ok_size_yes 2 h (omega arith) (omega arith) bounds.0 bounds.1

@@ -123,5 +123,6 @@ module _ {packet : List ℕ} {h announced k s e n weight : ℕ} (f : Following p
         within = omega (arith, f.within, right_header.is_end, length_fits packet s e (right packet s announced e right_header.fine).length);
         same =
             rw (right_header.is_after, right_header.is_inside, right_header.is_end)
-            (sym (follow_on packet announced k s e f.outer right_header.fine f.left (omega (arith, f.counted)) (λ z. on (right_header.is_after ∙ z))) ∙ f.same);
+            (sym (follow_on packet announced k s e f.outer right_header.fine f.left (omega (arith, f.counted)) (λ z. on (right_header.is_after ∙ z)))
+            ∙ f.same);
       }

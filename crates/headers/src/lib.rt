@@ -46,6 +46,7 @@ impl Unread {
 }
 
 // The stack of a packet, bottom to top, into the front of out: protocol 0 is IPv4, 1 is IPv6.
+#[tactic(auto, unfolding(crate::specs::Chains::reading_of, stacks::specs::Stacks::ok_size))]
 pub fn read_stack(h: usize, packet: &[u8], out: &mut [u8]) -> Result<Read, Unread>
     ensures { (result ≡ read_of h packet.now out.old) × (out.new ≡ out_of h packet.now out.old) }
 {
