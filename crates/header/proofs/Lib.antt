@@ -1,7 +1,5 @@
 -- The laws of the crate, from the fields up to what is answered.
-pub mod Bytes
 pub mod Lengths
-pub mod Judging
 pub mod Rightness
 pub mod Agreeing
 pub mod Outcomes

@@ -1,12 +1,14 @@
 // Whether the header at s is right, test by test in the order of the refusals; e is where what holds it ends.
-ghost use Rattle.std.specs.Prelude.{◌≡◌, ◌+◌, ◌*◌, ◌≤◌, ◌<◌, length};
-ghost use Rattle.header.specs.Fields.{ok_version, sum};
-ghost use Rattle.header.specs.Answers.{answered, rest_refusal};
+ghost use Rattle.std.specs.Prelude.{◌≡◌, ◌+◌, ◌*◌, ◌≤◌, ◌<◌, ◌&&◌, leb, length, true};
+ghost use Rattle.header.specs.Fields.{ok_room, ok_version, sum};
+ghost use Rattle.header.specs.Answers.{rest_refusal};
+ghost use Rattle.header.specs.Steps.{verdict};
 
-use crate::Header;
-use crate::fields::{announced_by, header_length, packet_length, pair_at, version_at};
+use crate::fields::{header_length, packet_length, pair_at, shortest, version_at};
+use refusal::Refusal;
 
 // The one's complement sum of the first `count` 16-bit words: a carry out of the top is added at the bottom.
+#[tactic(auto, unfolding(crate::specs::Fields::plus))]
 fn summed(packet: &[u8], s: usize, count: usize) -> usize
     requires { (s + 2 * count ≤ length packet.now) × (count ≤ 30) }
     ensures { result ≡ sum packet.now s count }
@@ -19,6 +21,15 @@ fn summed(packet: &[u8], s: usize, count: usize) -> usize
     total
 }
 
+// Whether what holds the header is in the packet and long enough for the shortest header.
+#[tactic(auto, unfolding(crate::specs::Fields::ok_room, crate::specs::Fields::shortest))]
+pub(crate) fn has_room(packet: &[u8], s: usize, e: usize) -> bool
+    ensures { (result ≡ leb e (length packet.now) && ok_room packet.now s e) × (result ≡ true → (s + 20 ≤ e) × (e ≤ length packet.now)) }
+{
+    e <= packet.len() && s < e && shortest(packet, s) <= e - s
+}
+
+#[tactic(auto, unfolding(crate::specs::Fields::ok_version))]
 pub(crate) fn version_fits(packet: &[u8], s: usize, announced: usize) -> bool
     requires { s < length packet.now }
     ensures { result ≡ ok_version packet.now s announced }
@@ -30,30 +41,26 @@ pub(crate) fn version_fits(packet: &[u8], s: usize, announced: usize) -> bool
     version == announced
 }
 
-// The tests from the header length on. (Version 6 passes those of the header length: its header has 40 bytes, and its packet as many or more.)
-pub(crate) fn rest_judged(packet: &[u8], s: usize, e: usize) -> Header
+// The tests from the header length on. (Version 6 passes all but that of the packet's length.)
+#[tactic(auto, unfolding(crate::specs::Fields::ok_header, crate::specs::Fields::ok_length, crate::specs::Fields::ok_checksum, crate::specs::Fields::ok_whole))]
+pub(crate) fn rest_judged(packet: &[u8], s: usize, e: usize) -> Result<(), Refusal>
     requires { (s + 20 ≤ e) × (e ≤ length packet.now) }
-    ensures { result ≡ answered packet.now s (rest_refusal packet.now s e) }
+    ensures { result ≡ verdict (rest_refusal packet.now s e) }
 {
+    let four = version_at(packet, s) != 6;
     let header = header_length(packet, s);
     let long = packet_length(packet, s);
-    if (header < 20) | (long < header) {
-        return Header::Refused(63);
+    if four && (header < 20 || long < header) {
+        return Err(Refusal::Header);
     }
     if e - s < long {
-        return Header::Refused(64);
+        return Err(Refusal::Beyond);
     }
-    let from = s + header;
-    let to = s + long;
-    let after = announced_by(packet, s);
-    if version_at(packet, s) == 6 {
-        return Header::Right(1, from, to, after);
+    if four && summed(packet, s, header / 2) != 65535 {
+        return Err(Refusal::Checksum);
     }
-    if summed(packet, s, header / 2) == 65535 {
-        if pair_at(packet, s, 6) % 16384 == 0 {
-            return Header::Right(0, from, to, after);
-        }
-        return Header::Refused(66);
+    if four && pair_at(packet, s, 6) % 16384 != 0 {
+        return Err(Refusal::Fragment);
     }
-    Header::Refused(65)
+    Ok(())
 }

@@ -7,28 +7,39 @@ ghost use Rattle.header.specs.Answers.{header_of};
 mod fields;
 mod judged;
 
-use fields::by_version;
-use judged::{rest_judged, version_fits};
+use fields::{announced_by, header_length, packet_length, protocol};
+use judged::{has_room, rest_judged, version_fits};
+use refusal::Refusal;
 
-// The header's protocol, where what follows it begins, where its packet ends, and the version of the header that follows (0 for none); or the refusal.
-#[derive(Clone, Copy)]
-pub enum Header {
-    Right(usize, usize, usize, usize),
-    Refused(u32),
+/// A header that is right.
+#[derive(Clone, Copy, Debug, PartialEq, Eq, Drop)]
+pub struct Header {
+    /// 0 is IPv4, 1 is IPv6.
+    pub protocol: usize,
+    /// Where what follows it begins.
+    pub from: usize,
+    /// Where its packet ends.
+    pub to: usize,
+    /// The version of the header that follows; 0 for none.
+    pub after: usize,
 }
 
-// The header that starts at s, announced so (0 for the outermost), in what ends at e. Protocol 0 is IPv4, 1 is IPv6.
-pub fn header_at(packet: &[u8], s: usize, announced: usize, e: usize) -> Header
+// The header that starts at s, announced so (0 for the outermost), in what ends at e.
+#[tactic(auto, unfolding(crate::specs::Answers::refusal_of, crate::specs::Answers::header_refusal))]
+pub fn header_at(packet: &[u8], s: usize, announced: usize, e: usize) -> Result<Header, Refusal>
     ensures { result ≡ header_of packet.now s announced e }
 {
-    if (packet.len() < e) | (e <= s) {
-        return Header::Refused(61);
+    if !has_room(packet, s, e) {
+        return Err(Refusal::Short);
     }
-    if e - s < by_version(packet, s, 20, 40) {
-        return Header::Refused(61);
+    if !version_fits(packet, s, announced) {
+        return Err(Refusal::WrongVersion);
     }
-    if version_fits(packet, s, announced) {
-        return rest_judged(packet, s, e);
-    }
-    Header::Refused(62)
+    rest_judged(packet, s, e)?;
+    Ok(Header {
+        protocol: protocol(packet, s),
+        from: s + header_length(packet, s),
+        to: s + packet_length(packet, s),
+        after: announced_by(packet, s),
+    })
 }

@@ -1,40 +1,38 @@
 -- What `read_stack` answers and writes at each return, over plain variables.
-use Prim.Native.Nat.{ℕ, ◌≤◌, ◌<◌}
+use Prim.Native.Nat.{ℕ, ◌≤◌}
 use native.Mathlib.Omega.{arith}
 use mathlib.Core.Path.{◌≡◌, refl, sym, ap, ◌∙◌}
-use mathlib.Core.Logic.{⊎_elim}
 use mathlib.Core.List.{List, [], ◌++◌}
-use mathlib.Core.Bool.{Bool, true, false, cond, ◌||◌}
+use mathlib.Core.Bool.{Bool, true, cond}
 use lib.ListN.{length, drop}
-use lib.Dec.{leb, ltb}
-use borrow.Author.Tests.{le-leb, lt-leb, ltb-true, ltb-false}
-use Rattle.lists.proofs.Tests.{either}
+use lib.Dec.{leb}
 use Rattle.stacks.specs.Stacks.{number, height, ok_size}
 use Rattle.stacks.specs.Answers.{ok_out, height_of}
 use Rattle.stacks.specs.Answers as stacks
-use Rattle.stacks.specs.declared.Answer.{Answer}
 use Rattle.stacks.proofs.Tests.{Good, good, good_ok, ok_size_yes}
 use Rattle.stacks.proofs.Outcomes.{cond_value, cond_refused}
 use Rattle.stacks.proofs.Numbers.{number_ok, stack_of_number_short, height_number}
-use Rattle.header.proofs.Judging.{neither}
 use Rattle.headers.specs.Chains.{Reading, found, refused, reading_of, follow}
-use Rattle.headers.specs.Answers.{read_of, out_of}
-use Rattle.headers.specs.Steps.{chained_of}
+use Rattle.headers.specs.Answers.{answered, read_of, written, out_of}
+use Rattle.headers.specs.Steps.{unread, chained_of}
 use Rattle.headers.specs.declared.chain.Chained.{Chained}
 use Rattle.headers.specs.declared.Read.{Read}
+use Rattle.headers.specs.declared.Unread.{Unread}
+use Rattle.std.specs.Prelude.{Result, Ok, Err}
+use Rattle.refusal.specs.declared.Refusal.{Refusal}
 use Rattle.headers.proofs.Reading.{finds}
 use Rattle.headers.proofs.Bounds.{a_stack}
 
 -- the reading behind a chain
 
-refused_is : (reading : Reading) (refusal header start : ℕ) → Chained.Refused refusal header start ≡ chained_of reading → reading ≡ refused refusal header start
-refused_is (found stack from to) refusal header start e = absurd (let z : ◌≡◌ {A = ℕ} 0 1 = cc in omega arith)
-refused_is (refused r k s) refusal header start e = cc
+refused_is : (out : List ℕ) (reading : Reading) (u : Unread) → Err u ≡ chained_of reading → (Err u ≡ answered out reading) × (out ≡ written out reading)
+refused_is out (found stack from to) u e = cc
+refused_is out (refused r k s) u e = ((cc), refl)
 
-found_is : (reading : Reading) (n from to : ℕ) → Chained.Found n from to ≡ chained_of reading
-    → (stack : List ℕ) × (reading ≡ found stack from to) × (n ≡ number 2 stack)
-found_is (found stack f t) n from to e = (stack, (cc), (cc))
-found_is (refused r k s) n from to e = absurd (let z : ◌≡◌ {A = ℕ} 0 1 = cc in omega arith)
+found_is : (reading : Reading) (chain : Chained) → Ok chain ≡ chained_of reading
+    → (stack : List ℕ) × (reading ≡ found stack chain.from chain.to) × (chain.number ≡ number 2 stack)
+found_is (found stack f t) chain e = (stack, (cc), (cc))
+found_is (refused r k s) chain e = cc
 
 -- what stacks::stack_of says of a stack's number, read back
 
@@ -46,79 +44,64 @@ module _ (h : ℕ) (stack out : List ℕ) (some : 1 ≤ h) (low : h ≤ 12) (g :
   unfolding ok_out
   fits = simp (ok_size_yes 2 h (omega arith) (omega arith) some low, number_ok 2 h stack (good_ok 2 h stack g), high_is)
 
-  height_is : height_of 2 h (number 2 stack) out ≡ cond (leb (length stack) (length out)) (Answer.Value (length stack)) (Answer.Refused 4)
+  height_is : height_of 2 h (number 2 stack) out ≡ cond (leb (length stack) (length out)) (Ok (length stack)) (Err Refusal.Range)
   height_is = simp (fits, high_is)
 
   out_is : stacks.out_of 2 h (number 2 stack) out ≡ cond (leb (length stack) (length out)) (stack ++ drop (length stack) out) out
   out_is = simp (fits, high_is, stack_of_number_short 2 h stack g.small g.low)
 
 -- what is asked of an answer r that leaves the buffer so
-abbrev pub Answers : ℕ → List ℕ → List ℕ → Read → List ℕ → Type 0
+abbrev pub Answers : ℕ → List ℕ → List ℕ → Result Read Unread → List ℕ → Type 0
 Answers h packet out r left = (r ≡ read_of h packet out) × (left ≡ out_of h packet out)
 
-pub in_bound : (h : ℕ) → (ltb h 1 || ltb 12 h) ≡ false → (1 ≤ h) × (h ≤ 12)
-in_bound h good = let n = neither (ltb h 1) (ltb 12 h) good in (ltb-false h 1 n.0, ltb-false 12 h n.1)
-
 module _ (h : ℕ) (packet out : List ℕ) where
-  below_bound : h < 1 → Answers h packet out (Read.Refused 1 0 0) out
-  unfolding reading_of ok_size
-  below_bound none = simp (lt-leb 1 h none) (refl, refl)
-
-  above_bound : 12 < h → Answers h packet out (Read.Refused 1 0 0) out
-  unfolding reading_of ok_size
-  above_bound high = simp (le-leb 1 h (omega arith), lt-leb h 12 high) (refl, refl)
-
-  pub out_of_bound : (ltb h 1 || ltb 12 h) ≡ true → Answers h packet out (Read.Refused 1 0 0) out
-  out_of_bound bad = ⊎_elim (λ b. below_bound (ltb-true h 1 b)) (λ b. above_bound (ltb-true 12 h b)) (either (ltb h 1) (ltb 12 h) bad)
-
-  module _ (some : 1 ≤ h) (low : h ≤ 12) where
+  module _ (bounds : (1 ≤ h) × (h ≤ 12)) where
     a_bound : ok_size 2 h ≡ true
-    a_bound = ok_size_yes 2 h (omega arith) (omega arith) some low
+    a_bound = ok_size_yes 2 h (omega arith) (omega arith) bounds.0 bounds.1
 
     is_follow : reading_of h packet ≡ follow packet h 0 0 0 (length packet) []
     unfolding reading_of
     is_follow = simp a_bound
 
-    pub chain_refused : (refusal header start : ℕ) → Chained.Refused refusal header start ≡ chained_of (follow packet h 0 0 0 (length packet) [])
-        → Answers h packet out (Read.Refused refusal header start) out
-    chain_refused refusal header start e = rw (is_follow ∙ refused_is (follow packet h 0 0 0 (length packet) []) refusal header start e) (refl, refl)
+    pub chain_refused : {u : Unread} → Err u ≡ chained_of (follow packet h 0 0 0 (length packet) []) → Answers h packet out (Err u) out
+    chain_refused {u} e = rw is_follow (refused_is out (follow packet h 0 0 0 (length packet) []) u e)
 
-    module _ (n from to : ℕ) (e : Chained.Found n from to ≡ chained_of (follow packet h 0 0 0 (length packet) [])) where
+    module _ {chain : Chained} (e : Ok chain ≡ chained_of (follow packet h 0 0 0 (length packet) [])) where
       -- the stack that was found
       record Stacked : Type 0 where
         stack : List ℕ
-        read : reading_of h packet ≡ found stack from to
-        numbered : n ≡ number 2 stack
+        read : reading_of h packet ≡ found stack chain.from chain.to
+        numbered : chain.number ≡ number 2 stack
         a_good : Good 2 h stack
 
       stacked : Stacked
       stacked =
-          let w = found_is (follow packet h 0 0 0 (length packet) []) n from to e in
+          let w = found_is (follow packet h 0 0 0 (length packet) []) chain e in
           record {
             stack = w.0;
             read = is_follow ∙ w.1;
             numbered = w.2;
-            a_good = good 2 h w.0 (a_stack h packet w.0 from to ((finds h packet w.0 from to).0 (is_follow ∙ w.1)));
+            a_good = good 2 h w.0 (a_stack h packet w.0 chain.from chain.to ((finds h packet w.0 chain.from chain.to).0 (is_follow ∙ w.1)));
           }
 
       -- whether the buffer has room for it
       abbrev room : Bool
       room = leb (length stacked.stack) (length out)
 
-      height_so : height_of 2 h n out ≡ cond room (Answer.Value (length stacked.stack)) (Answer.Refused 4)
-      height_so = ap (λ (x : ℕ). height_of 2 h x out) stacked.numbered ∙ height_is h stacked.stack out some low stacked.a_good
+      height_so : height_of 2 h chain.number out ≡ cond room (Ok (length stacked.stack)) (Err Refusal.Range)
+      height_so = ap (λ (x : ℕ). height_of 2 h x out) stacked.numbered ∙ height_is h stacked.stack out bounds.0 bounds.1 stacked.a_good
 
-      out_so : stacks.out_of 2 h n out ≡ cond room (stacked.stack ++ drop (length stacked.stack) out) out
-      out_so = ap (λ (x : ℕ). stacks.out_of 2 h x out) stacked.numbered ∙ out_is h stacked.stack out some low stacked.a_good
+      out_so : stacks.out_of 2 h chain.number out ≡ cond room (stacked.stack ++ drop (length stacked.stack) out) out
+      out_so = ap (λ (x : ℕ). stacks.out_of 2 h x out) stacked.numbered ∙ out_is h stacked.stack out bounds.0 bounds.1 stacked.a_good
 
-      pub stack_written : (high : ℕ) (left : List ℕ) → Answer.Value high ≡ height_of 2 h n out → left ≡ stacks.out_of 2 h n out
-          → Answers h packet out (Read.Stack high n from to) left
-      stack_written high left value is =
+      pub stack_written : {high : ℕ} {left : List ℕ} → Ok high ≡ height_of 2 h chain.number out → left ≡ stacks.out_of 2 h chain.number out
+          → Answers h packet out (Ok (record { height = high; number = chain.number; from = chain.from; to = chain.to })) left
+      stack_written {high} value is =
           let c = cond_value room (length stacked.stack) high (sym (value ∙ height_so)) in
           rw stacked.read (simp c.0 ((cc (c.1, stacked.numbered)), is ∙ out_so ∙ simp c.0))
 
-      pub no_room : (refusal : ℕ) (left : List ℕ) → Answer.Refused refusal ≡ height_of 2 h n out → left ≡ stacks.out_of 2 h n out
-          → Answers h packet out (Read.Refused 9 0 0) left
-      no_room refusal left value is =
+      pub no_room : {refusal : Refusal} {left : List ℕ} → Err refusal ≡ height_of 2 h chain.number out → left ≡ stacks.out_of 2 h chain.number out
+          → Answers h packet out (Err (unread Refusal.NoRoom 0 0)) left
+      no_room {refusal} value is =
           let c = cond_refused room (length stacked.stack) refusal (sym (value ∙ height_so)) in
           rw stacked.read (simp c.0 (refl, is ∙ out_so ∙ simp c.0))

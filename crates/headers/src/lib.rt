@@ -3,32 +3,64 @@
 
 ghost use Rattle.std.specs.Prelude.{◌≡◌};
 ghost use Rattle.headers.specs.Answers.{out_of, read_of};
+ghost use Rattle.headers.specs.Steps.{unread};
 
 mod chain;
 
-use chain::{Chained, followed};
-use stacks::Answer;
+use chain::followed;
+use refusal::Refusal;
 
-// The stack's height and number, and where the innermost packet's part after its header begins and ends; or the refusal, the header that met
-// it (0 is the outermost) and where that header starts.
-#[derive(Clone, Copy)]
-pub enum Read {
-    Stack(usize, usize, usize, usize),
-    Refused(u32, usize, usize),
+/// What was read: a stack of headers, and the innermost packet's part after its header.
+#[derive(Clone, Copy, Debug, PartialEq, Eq, Drop)]
+pub struct Read {
+    /// The stack's height.
+    pub height: usize,
+    /// The stack's number.
+    pub number: usize,
+    /// Where the part begins.
+    pub from: usize,
+    /// Where it ends.
+    pub to: usize,
+}
+
+/// Why a packet is not read, and where.
+#[derive(Clone, Copy, Debug, PartialEq, Eq, Drop)]
+pub struct Unread {
+    pub refusal: Refusal,
+    /// Which header met the refusal: 0 is the outermost.
+    pub header: usize,
+    /// Where that header starts.
+    pub start: usize,
+}
+
+impl Unread {
+    fn at(refusal: Refusal, header: usize, start: usize) -> Unread
+        ensures { result ≡ unread refusal header start }
+    {
+        Unread {
+            refusal,
+            header,
+            start,
+        }
+    }
 }
 
 // The stack of a packet, bottom to top, into the front of out: protocol 0 is IPv4, 1 is IPv6.
-pub fn read_stack(h: usize, packet: &[u8], out: &mut [u8]) -> Read
+#[tactic(auto, unfolding(crate::specs::Chains::reading_of, stacks::specs::Stacks::ok_size))]
+pub fn read_stack(h: usize, packet: &[u8], out: &mut [u8]) -> Result<Read, Unread>
     ensures { (result ≡ read_of h packet.now out.old) × (out.new ≡ out_of h packet.now out.old) }
 {
     if (h < 1) | (12 < h) {
-        return Read::Refused(1, 0, 0);
+        return Err(Unread::at(Refusal::Sizes, 0, 0));
     }
-    match followed(h, packet) {
-        Chained::Found(number, from, to) => match stacks::stack_of(2, h, number, out) {
-            Answer::Value(height) => Read::Stack(height, number, from, to),
-            Answer::Refused(refusal) => Read::Refused(9, 0, 0),
-        },
-        Chained::Refused(refusal, header, start) => Read::Refused(refusal, header, start),
+    let chain = followed(h, packet)?;
+    match stacks::stack_of(2, h, chain.number, out) {
+        Ok(height) => Ok(Read {
+            height,
+            number: chain.number,
+            from: chain.from,
+            to: chain.to,
+        }),
+        Err(_) => Err(Unread::at(Refusal::NoRoom, 0, 0)),
     }
 }

@@ -2,25 +2,17 @@
 // part, or the refusal in words.
 #![tactic(auto)]
 
-ghost use Rattle.std.specs.Prelude.{◌≡◌, ◌≤◌, IfOk, length};
+ghost use Rattle.std.specs.Prelude.{◌≤◌, IfOk, length};
 
-use headers::Read;
+use headers::{Read, Unread};
+use refusal::Refusal;
 use std::io;
 
-fn text(rt: &impl Print, bytes: &[u8]) -> io::Result<()> {
-    rt.write_all(bytes)
-}
+// The height bound.
+const MOST_HEADERS: usize = 12;
 
-fn number(rt: &impl Print, x: usize) -> io::Result<()> {
-    print!(rt; "{x}")
-}
-
-// Room for the longest packet: IPv6's header and the longest payload that it can tell.
-fn longest_packet() -> [u8; 65575]
-    ensures { 65575 ≡ length result }
-{
-    [0; 65575]
-}
+// The longest packet: IPv6's header and the longest payload that it can tell.
+const LONGEST: usize = 65575;
 
 // Reads until the room is full or the input ends, and answers how many bytes it put at the front.
 fn read_full<R: io::Read>(input: &mut R, room: &mut [u8]) -> io::Result<usize>
@@ -37,76 +29,42 @@ fn read_full<R: io::Read>(input: &mut R, room: &mut [u8]) -> io::Result<usize>
     Ok(done)
 }
 
-fn print_protocol(rt: &impl Print, protocol: u8) -> io::Result<()> {
-    if protocol == 0 {
-        text(rt, b" IPv4")
-    } else {
-        text(rt, b" IPv6")
+// A stack from the bottom up, its number, and how long the innermost part is.
+fn print_read(rt: &impl Print, read: Read, stack: &[u8]) -> io::Result<()> {
+    print!(rt; "stack")?;
+    for protocol in stack.iter().take(read.height) {
+        let version = if *protocol == 0 { 4 } else { 6 };
+        print!(rt; " IPv{version}")?;
     }
+    println!(rt; "\nnumber {}", read.number)?;
+    println!(rt;
+        "bytes after the innermost header {}",
+        read.to.saturating_sub(read.from)
+    )
 }
 
-fn smaller(a: usize, b: usize) -> usize
-    ensures { (result ≤ a) × (result ≤ b) }
-{
-    if a < b { a } else { b }
-}
-
-// The protocols of a stack from the bottom up.
-fn print_protocols(rt: &impl Print, stack: &[u8], height: usize) -> io::Result<()> {
-    let end = smaller(height, stack.len());
-    let mut i = 0;
-    while i < end {
-        print_protocol(rt, stack[i])?;
-        i += 1;
-    }
-    Ok(())
-}
-
-// How many bytes there are from one place to another.
-fn print_between(rt: &impl Print, from: usize, to: usize) -> io::Result<()> {
-    if from <= to {
-        number(rt, to - from)?;
-    }
-    Ok(())
-}
-
-fn print_reason(rt: &impl Print, refusal: u32) -> io::Result<()> {
+fn print_reason(rt: &impl Print, refusal: Refusal) -> io::Result<()> {
     match refusal {
-        61 => text(rt, b"too short"),
-        62 => text(rt, b"wrong version"),
-        63 => text(rt, b"bad header length"),
-        64 => text(rt, b"longer than what holds it"),
-        65 => text(rt, b"bad checksum"),
-        66 => text(rt, b"a fragment"),
-        67 => text(rt, b"more than 12 headers"),
-        _ => text(rt, b"no room"),
+        Refusal::Higher => print!(rt; "more than {MOST_HEADERS} headers"),
+        _ => print!(rt; "{refusal}"),
     }
+}
+
+fn print_unread(rt: &impl Print, unread: Unread) -> io::Result<()> {
+    print!(rt; "refused {}, ", u32::from(unread.refusal))?;
+    print_reason(rt, unread.refusal)?;
+    println!(rt;
+        ": header {} from outside, at byte {}",
+        unread.header, unread.start
+    )
 }
 
 fn main(rt: HostRuntime) -> io::Result<()> {
-    let mut packet = longest_packet();
+    let mut packet = [0; LONGEST];
     let got = read_full(&mut rt.stdin(), &mut packet)?;
-    let mut stack = [0u8; 12];
-    match headers::read_stack(12, &packet[..got], &mut stack) {
-        Read::Stack(height, stack_number, from, to) => {
-            text(&rt, b"stack")?;
-            print_protocols(&rt, &stack, height)?;
-            text(&rt, b"\nnumber ")?;
-            number(&rt, stack_number)?;
-            text(&rt, b"\nbytes after the innermost header ")?;
-            print_between(&rt, from, to)?;
-            text(&rt, b"\n")
-        }
-        Read::Refused(refusal, header, start) => {
-            text(&rt, b"refused ")?;
-            number(&rt, refusal as usize)?;
-            text(&rt, b", ")?;
-            print_reason(&rt, refusal)?;
-            text(&rt, b": header ")?;
-            number(&rt, header)?;
-            text(&rt, b" from outside, at byte ")?;
-            number(&rt, start)?;
-            text(&rt, b"\n")
-        }
+    let mut stack = [0; MOST_HEADERS];
+    match headers::read_stack(MOST_HEADERS, &packet[..got], &mut stack) {
+        Ok(read) => print_read(&rt, read, &stack),
+        Err(unread) => print_unread(&rt, unread),
     }
 }

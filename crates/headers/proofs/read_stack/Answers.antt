@@ -1,35 +1,25 @@
 -- `headers::read_stack` meets its contract: a law of proofs/Answering.antt for each return.
-use mathlib.Core.Path.{sym, ◌∙◌}
-use Rattle.headers.proofs.Answering.{in_bound, out_of_bound, chain_refused, stack_written, no_room}
+use Prim.Native.Nat.{◌≤◌}
+use Rattle.std.specs.Prelude.{Err}
+use Rattle.std.proofs.Common.{rules}
+use Rattle.headers.proofs.Answering.{Answers, chain_refused, stack_written, no_room}
 use Rattle.headers.proofs.read_stack.Goals as goal
 
-pub returns-then-h : goal.returns-then-h
-returns-then-h c =
+pub returns-in_err-chain : goal.returns-in_err-chain
+returns-in_err-chain c =
     let a = c.args in
-    out_of_bound a.h a.packet.now a.out.now c.if-h.true
+    let b : (1 ≤ a.h) × (a.h ≤ 12) = search rules in
+    let is : Answers a.h a.packet.now a.out.now (Err c.in_err-chain.field-0.0) a.out.now = chain_refused a.h a.packet.now a.out.now b c.in_err-chain.ensures in
+    search rules
 
-pub followed-requires : goal.followed-requires
-followed-requires c = (in_bound _ c.if-h.false).1
-
-pub returns-in-Value : goal.returns-in-Value
-returns-in-Value c =
+pub returns-in-Ok : goal.returns-in-Ok
+returns-in-Ok c =
     let a = c.args in
-    let b = in_bound a.h c.if-h.false in
-    let v = c.in-Found in
-    stack_written a.h a.packet.now a.out.now b.0 b.1 v.number v.from v.to (sym c.in-Found.is ∙ c.followed.ensures)
-    c.in-Value.height c.stack_of.new.out (sym c.in-Value.is ∙ c.stack_of.ensures.0) c.stack_of.ensures.1
+    let b : (1 ≤ a.h) × (a.h ≤ 12) = search rules in
+    stack_written a.h a.packet.now a.out.now b c.in_ok-chain.ensures c.in-Ok.ensures.0 c.in-Ok.ensures.1
 
-pub returns-in-Refused-stack_of : goal.returns-in-Refused-stack_of
-returns-in-Refused-stack_of c =
+pub returns-in-Err : goal.returns-in-Err
+returns-in-Err c =
     let a = c.args in
-    let b = in_bound a.h c.if-h.false in
-    let v = c.in-Found in
-    no_room a.h a.packet.now a.out.now b.0 b.1 v.number v.from v.to (sym c.in-Found.is ∙ c.followed.ensures)
-    c.in-Refused-stack_of.refusal c.stack_of.new.out (sym c.in-Refused-stack_of.is ∙ c.stack_of.ensures.0) c.stack_of.ensures.1
-
-pub returns-in-Refused : goal.returns-in-Refused
-returns-in-Refused c =
-    let a = c.args in
-    let b = in_bound a.h c.if-h.false in
-    let v = c.in-Refused in
-    chain_refused a.h a.packet.now a.out.now b.0 b.1 v.refusal v.header v.start (sym v.is ∙ c.followed.ensures)
+    let b : (1 ≤ a.h) × (a.h ≤ 12) = search rules in
+    rw c.at-in-Err.ensures (no_room a.h a.packet.now a.out.now b c.in_ok-chain.ensures c.in-Err.ensures.0 c.in-Err.ensures.1)

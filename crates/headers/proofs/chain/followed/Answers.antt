@@ -1,74 +1,46 @@
 -- `headers::chain::followed` meets its contract: a law of proofs/Following.antt for each return, and for a turn of the loop.
-use Prim.Native.Nat.{◌+◌, ◌*◌, ◌≤◌}
 use native.Mathlib.Omega.{arith}
-use mathlib.Core.Path.{sym, ◌∙◌}
-use Rattle.headers.proofs.Following.{starts, light, one_or_two, sum_few, refuses, too_high, ends, goes_on}
+use mathlib.Core.List.{[]}
+use mathlib.Core.Path.{◌≡◌, refl, ap, ◌∙◌}
+use lib.ListN.{length}
+use Rattle.std.specs.Prelude.{Err}
+use Rattle.std.proofs.Common.{rules}
+use Rattle.headers.specs.Chains.{follow}
+use Rattle.headers.specs.Steps.{chained_of}
+use Rattle.headers.proofs.Following.{starts, at_end, one_or_two, sum_few, refuses, too_high, ends, goes_on}
 use Rattle.headers.proofs.chain.followed.Goals as goal
-use Rattle.headers.proofs.chain.followed.Goals.{Else-k-h}
 
--- what a turn makes of the number is small
-small : (c : Else-k-h) → (c.in-Right.protocol + 1 ≤ 2) × (c.loop-refusal.number + c.loop-refusal.weight * (c.in-Right.protocol + 1) ≤ 16382)
-small c =
+pub loop-k-init : goal.loop-k-init
+loop-k-init c = starts c.args.packet.now c.args.h
+
+pub returns-in_err-header : goal.returns-in_err-header
+returns-in_err-header c =
     let a = c.args in
-    let l = c.loop-refusal in
-    let v = c.in-Right in
-    let answer = sym v.is ∙ c.header_at.ensures in (
-      one_or_two a.packet.now a.h l.announced l.k l.s l.e l.number l.weight l.invariant v.protocol v.from v.to v.after answer,
-      sum_few a.packet.now a.h l.announced l.k l.s l.e l.number l.weight l.invariant v.protocol v.from v.to v.after answer c.requires,
-    )
-
-pub loop-refusal-init : goal.loop-refusal-init
-loop-refusal-init c = starts c.args.packet.now c.args.h
-
-pub returns-in-Refused : goal.returns-in-Refused
-returns-in-Refused c =
-    let a = c.args in
-    let l = c.loop-refusal in
-    refuses a.packet.now a.h l.announced l.k l.s l.e l.number l.weight l.invariant c.in-Refused.refusal (sym c.in-Refused.is ∙ c.header_at.ensures)
-
-pub returns-then-k-h : goal.returns-then-k-h
-returns-then-k-h c =
-    let a = c.args in
-    let l = c.loop-refusal in
-    let v = c.in-Right in
-    too_high a.packet.now a.h l.announced l.k l.s l.e l.number l.weight l.invariant v.protocol v.from v.to v.after (sym v.is ∙ c.header_at.ensures)
-    (omega (arith, c.loop-refusal.invariant.counted))
+    let is : Err c.in_err-header.field-0.0 ≡ chained_of (follow a.packet.now a.h 0 0 0 (length a.packet.now) []) =
+    refuses c.loop-k.invariant c.in_err-header.ensures in
+    search rules
 
 pub overflow_add-number : goal.overflow_add-number
-overflow_add-number c = omega (arith, small (goal.at.overflow_add-number c).Else-k-h)
+overflow_add-number c = omega (arith, one_or_two c.loop-k.invariant c.in_ok-header.ensures)
 
 pub overflow_mul-number : goal.overflow_mul-number
-overflow_mul-number c = omega (arith, small (goal.at.overflow_mul-number c).Else-k-h)
+overflow_mul-number c = omega (arith, sum_few c.loop-k.invariant c.in_ok-header.ensures c.requires)
 
-pub overflow_add-number-in-Right : goal.overflow_add-number-in-Right
-overflow_add-number-in-Right c = omega (arith, small (goal.at.overflow_add-number-in-Right c).Else-k-h)
+pub overflow_add-number-in-loop-k : goal.overflow_add-number-in-loop-k
+overflow_add-number-in-loop-k c = omega (arith, sum_few c.loop-k.invariant c.in_ok-header.ensures c.requires)
 
-pub returns-then-after-eq0 : goal.returns-then-after-eq0
-returns-then-after-eq0 c =
+pub returns-then-header-eq0 : goal.returns-then-header-eq0
+returns-then-header-eq0 c = ends c.loop-k.invariant c.in_ok-header.ensures c.loop-k-test.true c.if-header-eq0.true
+
+pub loop-k-preserved : goal.loop-k-preserved
+loop-k-preserved c = goes_on c.loop-k.invariant c.in_ok-header.ensures c.loop-k-test.true c.if-header-eq0.false
+
+pub returns-in_err-judged : goal.returns-in_err-judged
+returns-in_err-judged c =
     let a = c.args in
-    let l = c.loop-refusal in
-    let v = c.in-Right in
-    ends a.packet.now a.h l.announced l.k l.s l.e l.number l.weight l.invariant v.protocol v.from v.to v.after (sym v.is ∙ c.header_at.ensures)
-    (λ z. omega arith) c.if-after-eq0.true
+    let is : Err c.in_err-judged.field-0.0 ≡ chained_of (follow a.packet.now a.h 0 0 0 (length a.packet.now) []) =
+    refuses (at_end c.loop-k.invariant (omega arith)) c.in_err-judged.ensures in
+    search rules
 
-pub overflow_mul-weight : goal.overflow_mul-weight
-overflow_mul-weight c =
-    let a = c.args in
-    let l = c.loop-refusal in
-    omega (arith, light a.packet.now a.h l.announced l.k l.s l.e l.number l.weight l.invariant c.requires)
-
-pub overflow_add-k : goal.overflow_add-k
-overflow_add-k c =
-    omega (arith, c.loop-refusal.invariant.counted, c.requires)
-
-pub loop-refusal-smaller : goal.loop-refusal-smaller
-loop-refusal-smaller c =
-    omega (arith, c.loop-refusal.invariant.counted, c.if-k-h.false)
-
-pub loop-refusal-preserved : goal.loop-refusal-preserved
-loop-refusal-preserved c =
-    let a = c.args in
-    let l = c.loop-refusal in
-    let v = c.in-Right in
-    goes_on a.packet.now a.h l.announced l.k l.s l.e l.number l.weight l.invariant v.protocol v.from v.to v.after (sym v.is ∙ c.header_at.ensures)
-    (λ z. omega arith) c.if-after-eq0.false
+pub returns : goal.returns
+returns c = ap Err c.at.ensures ∙ too_high (at_end c.loop-k.invariant (omega arith)) c.in_ok-judged.ensures refl
