@@ -41,15 +41,24 @@ ranged p f ok =
     record { some = leb-true 1 p q.0; few = leb-true p 8 r.0; parts = function p f r.1 }
 
 -- below no protocol there is no function, so that 1 ≤ p needs no test
-pub in_range : (p f : ℕ) → (((leb p 8 && ltb f 192) && ltb (f / 8 % 8) p) && ltb (f % 8) p) ≡ (leb 1 p && (leb p 8 && ok_function p f))
+pub in_range : (p f : ℕ) → ltb f 192 ≡ true → ((leb p 8 && ltb (f / 8 % 8) p) && ltb (f % 8) p) ≡ (leb 1 p && (leb p 8 && ok_function p f))
 unfolding ok_function
-in_range p f = by_cases (dec_lt 0 p)
-    (λ some. rw (le-leb 1 p some) (simp and_assoc))
-    (λ none. rw (lt-leb 1 p (omega arith), le-ltb (f % 8) p (omega arith)) (never ((leb p 8 && ltb f 192) && ltb (f / 8 % 8) p)))
+in_range p f low = by_cases (dec_lt 0 p)
+    (λ some. simp (le-leb 1 p some, low, and_assoc))
+    (λ none. rw (lt-leb 1 p (omega arith), le-ltb (f % 8) p (omega arith)) (never (leb p 8 && ltb (f / 8 % 8) p)))
   where
     never : (x : Bool) → (x && false) ≡ false
     never true = refl
     never false = refl
+
+pub past_all : (p f : ℕ) → ltb f 192 ≡ false → (leb 1 p && (leb p 8 && ok_function p f)) ≡ false
+unfolding ok_function
+past_all p f high = rw high (never (leb 1 p) (leb p 8))
+  where
+    never : (x y : Bool) → (x && (y && false)) ≡ false
+    never true true = refl
+    never true false = refl
+    never false y = refl
 
 -- what `moved` refuses nothing of
 pub record Moves (p most f n : ℕ) : Type 0 where

@@ -1,5 +1,6 @@
 -- A function taken apart, and put together again.
-use Rattle.std.specs.Prelude.{ℕ, zero, suc, ◌+◌, ◌*◌, ◌≡◌}
+use Rattle.std.specs.Prelude.{ℕ, zero, suc, ◌+◌, ◌*◌, ◌≡◌, cond, ltb, Result, Ok, Err}
+use Rattle.refusal.specs.declared.Refusal.{Refusal}
 use Rattle.functions.specs.Functions.{kind_of, from_of, to_of}
 use Rattle.functions.specs.declared.Kind.{Kind}
 use Rattle.functions.specs.declared.Function.{Function}
@@ -21,6 +22,10 @@ IsKindNumber kind n = n ≡ kind_number kind
 
 abbrev pub function_of : ℕ → Function
 function_of f = record { kind = kind_at (kind_of f); a = from_of f; b = to_of f }
+
+-- the function that a conversion gives, if the number is one's
+abbrev pub IsFunctionOf : ℕ → Result Function Refusal → Type 0
+IsFunctionOf f r = r ≡ cond (ltb f 192) (Ok (function_of f)) (Err Refusal.Range)
 
 -- the number of the inverse
 abbrev pub inverse_of_kind : Kind → ℕ → ℕ → ℕ

@@ -5,7 +5,7 @@
 ghost use Rattle.std.specs.Prelude.{◌≡◌, ◌&&◌, ◌≤◌, ◌<◌, Ok, Err, cond, leb};
 ghost use Rattle.functions.specs.Functions.{kind_of, ok_function};
 ghost use Rattle.functions.specs.Answers.{applied_of, move_number, moved_of, inverse_of};
-ghost use Rattle.functions.specs.Parts.{IsKindNumber, kind_at, kind_number, function_of, inverse_by};
+ghost use Rattle.functions.specs.Parts.{IsFunctionOf, IsKindNumber, kind_at, kind_number, function_of, inverse_by};
 
 use refusal::Refusal;
 
@@ -43,23 +43,30 @@ fn kind_of(f: usize) -> Kind
     }
 }
 
-// Whether p is in range and f is a function on the protocols below p.
-fn good_function(p: usize, f: usize) -> bool
-    ensures { result ≡ leb 1 p && (leb p 8 && ok_function p f) }
-{
-    (p <= 8) & (f < 192) & (f / 8 % 8 < p) & (f % 8 < p)
+impl TryFrom<usize> for Function {
+    type Error = Refusal;
+
+    ghost try_from_gives = { IsFunctionOf };
+
+    fn try_from(f: usize) -> Result<Function, Refusal> {
+        if f < 192 {
+            return Ok(Function {
+                kind: kind_of(f),
+                a: f / 8 % 8,
+                b: f % 8,
+            });
+        }
+        Err(Refusal::Range)
+    }
 }
 
 // The function of a number, on the protocols below p.
 fn function_on(p: usize, f: usize) -> Result<Function, Refusal>
     ensures { result ≡ cond (leb 1 p && (leb p 8 && ok_function p f)) (Ok (function_of f)) (Err Refusal.Range) }
 {
-    if good_function(p, f) {
-        return Ok(Function {
-            kind: kind_of(f),
-            a: f / 8 % 8,
-            b: f % 8,
-        });
+    let function = Function::try_from(f)?;
+    if (p <= 8) & (function.a < p) & (function.b < p) {
+        return Ok(function);
     }
     Err(Refusal::Range)
 }
