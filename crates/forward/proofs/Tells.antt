@@ -7,33 +7,35 @@ use lib.Dec.{leb, eqb}
 use borrow.Author.Tests.{ltb-true}
 use Rattle.lists.proofs.Tests.{both}
 use Rattle.stacks.proofs.Tests.{within}
-use Rattle.functions.specs.Answers.{applied_of, number_after}
-use Rattle.functions.specs.declared.After.{After}
+use Rattle.functions.specs.Answers.{made, applied_of, number_after}
+use Rattle.std.specs.Prelude.{Result, Ok, Err, Option, Some, None}
+use Rattle.refusal.specs.declared.Refusal.{Refusal}
 use Rattle.functions.proofs.Laws.{leads}
 use Rattle.network.specs.Network.{Network, stacks, present}
 use Rattle.network.proofs.Laws.{present_nodes}
 use Rattle.gateways.specs.Gateways.{can}
 use Rattle.table.specs.Table.{Table, no_row, ceiling, home}
-use Rattle.forward.specs.Forward.{look_at, ok_row, cost_of, next_of, function_of, result_of}
+use Rattle.forward.specs.declared.Hop.{Hop}
+use Rattle.forward.specs.Forward.{hop, forward, look_at, ok_row, cost_of, next_of, function_of, result_of}
 use Rattle.forward.specs.declared.Look.{Look}
 
 pub record Forwards (net : Network) (t : Table) (U D N W f M c : ℕ) : Type 0 where
   pub linked : present net U W ≡ true
   pub able : can net U f ≡ true
-  pub makes : applied_of net.p net.h f N ≡ After.Number M
+  pub makes : applied_of net.p net.h f N ≡ made M
   pub next : W < net.n
   pub numbered : 1 ≤ M
   pub within : M ≤ stacks net
 
 -- a number that is not 0 is what `applied` gives
-gives : (a : After) → 0 < number_after a → a ≡ After.Number (number_after a)
-gives (After.Number m) h = refl
-gives After.NotApplicable h = absurd (omega arith)
-gives (After.Refused r) h = absurd (omega arith)
+gives : (a : Result (Option ℕ) Refusal) → 0 < number_after a → a ≡ made (number_after a)
+gives (Ok (Some m)) h = refl
+gives (Ok None) h = absurd (omega arith)
+gives (Err r) h = absurd (omega arith)
 
 module _ (net : Network) (t : Table) (U D N W f M c : ℕ) where
-  row_tells : ok_row net t U D N ≡ true → Look.Forward (next_of net t U D N) (function_of net t U D N) (result_of net t U D N) (cost_of net t U D N)
-      ≡ Look.Forward W f M c
+  row_tells : ok_row net t U D N ≡ true → forward (next_of net t U D N) (function_of net t U D N) (result_of net t U D N) (cost_of net t U D N)
+      ≡ forward W f M c
       → Forwards net t U D N W f M c
   unfolding ok_row
   row_tells ok e =
@@ -41,13 +43,14 @@ module _ (net : Network) (t : Table) (U D N W f M c : ℕ) where
       let b = both (leb (cost_of net t U D N) ceiling) _ a.1 in
       let d = both (present net U (next_of net t U D N)) _ b.1 in
       let g = both (can net U (function_of net t U D N)) _ d.1 in
-      let q_w : next_of net t U D N ≡ W = cc in
-      let qf : function_of net t U D N ≡ f = cc in
-      let q_m : result_of net t U D N ≡ M = cc in
+      let q : hop (next_of net t U D N) (function_of net t U D N) (result_of net t U D N) (cost_of net t U D N) ≡ hop W f M c = cc in
+      let q_w : next_of net t U D N ≡ W = ap (λ (x : Hop). x.next) q in
+      let qf : function_of net t U D N ≡ f = ap (λ (x : Hop). x.function) q in
+      let q_m : result_of net t U D N ≡ M = ap (λ (x : Hop). x.number) q in
       let linked : present net U W ≡ true = subst (λ (x : ℕ). present net U x ≡ true) q_w d.0 in
-      let makes : applied_of net.p net.h f N ≡ After.Number M =
-      subst (λ (x : ℕ). applied_of net.p net.h x N ≡ After.Number M) qf
-      (gives (applied_of net.p net.h (function_of net t U D N) N) (ltb-true 0 (result_of net t U D N) g.1) ∙ ap After.Number q_m) in
+      let makes : applied_of net.p net.h f N ≡ made M =
+      subst (λ (x : ℕ). applied_of net.p net.h x N ≡ made M) qf
+      (gives (applied_of net.p net.h (function_of net t U D N) N) (ltb-true 0 (result_of net t U D N) g.1) ∙ ap made q_m) in
       let number = within net.p net.h M (leads net.p net.h f N M makes).to in
       record {
         linked = linked;
@@ -58,14 +61,14 @@ module _ (net : Network) (t : Table) (U D N W f M c : ℕ) where
         within = number.most;
       }
 
-  pub forward_tells : Look.Forward W f M c ≡ look_at net t U D N → Forwards net t U D N W f M c
+  pub forward_tells : forward W f M c ≡ look_at net t U D N → Forwards net t U D N W f M c
   unfolding look_at
   forward_tells e = go (home net U D N) (eqb (cost_of net t U D N) no_row) (ok_row net t U D N) refl (sym e)
     where
       go : (a b ok : Bool) → ok_row net t U D N ≡ ok
-          → cond a Look.Delivered (cond b (Look.Refused 6) (cond ok (Look.Forward (next_of net t U D N) (function_of net t U D N) (result_of net t U D N)
-          (cost_of net t U D N)) (Look.Refused 7)))
-          ≡ Look.Forward W f M c → Forwards net t U D N W f M c
+          → cond a (Ok Look.Delivered) (cond b (Err Refusal.NoRoute) (cond ok (forward (next_of net t U D N) (function_of net t U D N) (result_of net t U D N)
+          (cost_of net t U D N)) (Err Refusal.Broken)))
+          ≡ forward W f M c → Forwards net t U D N W f M c
       go true b ok v d = absurd (let z : ◌≡◌ {A = ℕ} 0 1 = cc in omega arith)
       go false true ok v d = absurd (let z : ◌≡◌ {A = ℕ} 0 1 = cc in omega arith)
       go false false true v d = row_tells v d

@@ -1,10 +1,19 @@
 -- Where a packet goes next: the part "Lookup" of the specification, once refusals 1 to 4 are tested.
-use Rattle.std.specs.Prelude.{ℕ, ◌/◌, ◌%◌, Bool, cond, ◌&&◌, get_or, leb, ltb, eqb}
+use Rattle.std.specs.Prelude.{ℕ, ◌/◌, ◌%◌, Bool, cond, ◌&&◌, get_or, leb, ltb, eqb, Result, Ok, Err}
+use Rattle.refusal.specs.declared.Refusal.{Refusal}
 use Rattle.functions.specs.Answers.{applied_of, number_after}
 use Rattle.network.specs.Network.{Network, stacks, present}
 use Rattle.gateways.specs.Gateways.{can}
 use Rattle.table.specs.Table.{Table, no_row, ceiling, cost_in, place, home}
+use Rattle.forward.specs.declared.Hop.{Hop}
 use Rattle.forward.specs.declared.Look.{Look}
+
+-- a hop, and the answer that a packet makes it
+abbrev pub hop : ℕ → ℕ → ℕ → ℕ → Hop
+hop W f M c = record { next = W; function = f; number = M; cost = c }
+
+abbrev pub forward : ℕ → ℕ → ℕ → ℕ → Result Look Refusal
+forward W f M c = Ok (Look.Forward (hop W f M c))
 
 -- Where this fails of U's row, with cost c and way w, whose function makes stack number M, refusal 7 is given: "cost 0 or above the ceiling,
 -- or the way names no node, link or available applicable function"
@@ -13,11 +22,11 @@ ok_way net U c w M = leb 1 c && (leb c ceiling && (present net U (w / 256) && (c
 
 -- "Delivered if U is D and the stack is one protocol that D accepts, whatever the table holds. Otherwise the row's next node, function,
 -- resulting stack number and cost."
-abbrev pub answer : Bool → Bool → ℕ → ℕ → ℕ → Look
+abbrev pub answer : Bool → Bool → ℕ → ℕ → ℕ → Result Look Refusal
 answer delivered ok c w M =
-    cond delivered Look.Delivered
-    (cond (eqb c no_row) (Look.Refused 6)
-    (cond ok (Look.Forward (w / 256) (w % 256) M c) (Look.Refused 7)))
+    cond delivered (Ok Look.Delivered)
+    (cond (eqb c no_row) (Err Refusal.NoRoute)
+    (cond ok (forward (w / 256) (w % 256) M c) (Err Refusal.Broken)))
 
 module _ (net : Network) (t : Table) where
   -- the row of node U, destination D and stack number N
@@ -41,5 +50,5 @@ module _ (net : Network) (t : Table) where
   unfoldable pub ok_row : ℕ → ℕ → ℕ → Bool
   ok_row U D N = ok_way net U (cost_of U D N) (way_of U D N) (result_of U D N)
 
-  unfoldable pub look_at : ℕ → ℕ → ℕ → Look
+  unfoldable pub look_at : ℕ → ℕ → ℕ → Result Look Refusal
   look_at U D N = answer (home net U D N) (ok_row U D N) (cost_of U D N) (way_of U D N) (result_of U D N)

@@ -2,66 +2,43 @@
 #![tactic(auto)]
 
 ghost use Rattle.std.specs.Prelude.{◌≡◌};
-ghost use Rattle.network.specs.Network.{network_of};
-ghost use Rattle.table.specs.Table.{table_of};
+ghost use Rattle.network.specs.Handed.{network};
+ghost use Rattle.table.specs.Handed.{table_seen};
 ghost use Rattle.forward.specs.Answers.{lookup_of};
 
 pub mod row;
 
-use packet::Packet;
+use network::Network;
+use refusal::Refusal;
 use row::look;
+use table::Table;
 
-// A lookup's answer: delivered here, forward (next node, function, resulting stack number, cost), or the refusal's number.
-#[derive(Clone, Copy)]
-pub enum Look {
-    Delivered,
-    Forward(usize, usize, usize, u32),
-    Refused(u32),
+/// One hop: the next node, the function used on the way, the number of the stack that it makes, and what the row costs.
+#[derive(Clone, Copy, Debug, PartialEq, Eq, Drop)]
+pub struct Hop {
+    pub next: usize,
+    pub function: usize,
+    pub number: usize,
+    pub cost: u32,
 }
 
-// What a node does with a packet: the stack's protocols stand bottom to top.
+/// What a node does with a packet: delivered here, or sent on.
+#[derive(Clone, Copy, Debug, PartialEq, Eq, Drop)]
+pub enum Look {
+    Delivered,
+    Forward(Hop),
+}
+
+/// What a node does with a packet: the stack's protocols stand bottom to top.
 pub fn lookup(
-    n: usize,
-    p: usize,
-    h: usize,
-    links: &[u16],
-    functions: &[u16],
-    cost: &[u32],
-    way: &[u16],
-    waiting: &[u32],
+    net: &Network,
+    table: &Table,
     node: usize,
     destination: usize,
     stack: &[u8],
-) -> Look
-    ensures { result ≡ lookup_of (network_of n p h links.now functions.now) (table_of cost.now way.now waiting.now)
-        node destination stack.now }
+) -> Result<Look, Refusal>
+    ensures { result ≡ lookup_of (network net.now) (table_seen table.now) node destination stack.now }
 {
-    match packet::begin(
-        n,
-        p,
-        h,
-        links,
-        functions,
-        cost,
-        way,
-        waiting,
-        node,
-        destination,
-        stack,
-    ) {
-        Packet::Number(stacks, number) => look(
-            n,
-            p,
-            h,
-            stacks,
-            links,
-            functions,
-            cost,
-            way,
-            node,
-            destination,
-            number,
-        ),
-        Packet::Refused(refusal) => Look::Refused(refusal),
-    }
+    let packet = packet::begin(net, table, node, destination, stack)?;
+    look(net, packet.stacks, table, node, destination, packet.number)
 }

@@ -8,67 +8,52 @@ use lib.ListN.{length}
 use lib.Dec.{ltb, eqb}
 use borrow.Author.Tests.{ltb-true, lt-ltb, le-ltb}
 use Rattle.lists.proofs.Tests.{both}
+use Rattle.std.specs.Prelude.{Result, Ok, Err}
+use Rattle.refusal.specs.declared.Refusal.{Refusal}
+use Rattle.refusal.specs.Numbers.{named}
+use Rattle.refusal.proofs.Answers.{tested_ok, tested_err}
 use Rattle.stacks.specs.Stacks.{ok_size, ok_stack, number}
 use Rattle.stacks.specs.Answers.{number_of}
-use Rattle.stacks.specs.declared.Answer.{Answer}
 use Rattle.stacks.proofs.Tests.{within}
 use Rattle.stacks.proofs.Laws.{number_in_range}
 use Rattle.network.specs.Network.{Network}
-use Rattle.network.specs.declared.Checked.{Checked}
 use Rattle.network.proofs.Laws.{valid}
 use Rattle.table.specs.Table.{Table}
 use Rattle.table.specs.Answers.{refusal, ready_of}
 use Rattle.table.proofs.Begins.{Ready, is_ready, is_refused, begun, stopped}
-use Rattle.packet.specs.Packet.{ok_packet, packet_from, packet_of, Placed}
+use Rattle.packet.specs.Packet.{ok_packet, packet, packet_from, packet_of, Placed}
 use Rattle.packet.specs.declared.Packet.{Packet}
 
-numbered_so : (ok : Bool) (x N : ℕ) → cond ok (Answer.Value x) (Answer.Refused 4) ≡ Answer.Value N → (ok ≡ true) × (N ≡ x)
-numbered_so true x N e = (refl, (cc))
-numbered_so false x N e = absurd (let z : ◌≡◌ {A = ℕ} 0 1 = cc in omega arith)
-
-refused_so : (ok : Bool) (x r : ℕ) → cond ok (Answer.Value x) (Answer.Refused 4) ≡ Answer.Refused r → (ok ≡ false) × (r ≡ 4)
-refused_so true x r e = absurd (let z : ◌≡◌ {A = ℕ} 0 1 = cc in omega arith)
-refused_so false x r e = (refl, (cc))
-
 -- ---- at each test of `begin`
-module _ (net : Network) (t : Table) (U D : ℕ) (stack : List ℕ) where
-  pub not_begun : (r : ℕ) {k : Checked} → k ≡ ready_of net (length t.cost) (length t.way) (length t.waiting) → k ≡ Checked.Refused r
-      → Packet.Refused r ≡ packet_of net t U D stack
-  not_begun r is e = sym (ap (λ (k : Checked). packet_from k (ok_packet net U D stack) (number net.p stack)) (sym is ∙ e))
+module _ (net : Network) (t : Table) (U D : ℕ) (stack : List ℕ) (s : ℕ) (told : Ok s ≡ ready_of net (length t.cost) (length t.way) (length t.waiting)) where
+  answers : (ok : Bool) → ok_packet net U D stack ≡ ok
+      → ◌≡◌ {A = Result Packet Refusal} (cond ok (Ok (packet s (number net.p stack))) (Err Refusal.Range)) (packet_of net t U D stack)
+  answers ok d =
+      ap (λ (b : Bool). cond b (Ok (packet s (number net.p stack))) (Err Refusal.Range)) (sym d)
+      ∙ ap (λ (k : Result ℕ Refusal). packet_from k (ok_packet net U D stack) (number net.p stack)) told
 
-  module _ (s : ℕ) {k : Checked} (is : k ≡ ready_of net (length t.cost) (length t.way) (length t.waiting)) (told : k ≡ Checked.Stacks s) where
-    ready_is : ready_of net (length t.cost) (length t.way) (length t.waiting) ≡ Checked.Stacks s
-    ready_is = sym is ∙ told
+  size : ok_size net.p net.h ≡ true
+  size = (valid net (is_ready net t s (sym told)).network).size
 
-    answers : (ok : Bool) → ok_packet net U D stack ≡ ok → cond ok (Packet.Number s (number net.p stack)) (Packet.Refused 4) ≡ packet_of net t U D stack
-    answers ok d =
-        ap (λ (b : Bool). cond b (Packet.Number s (number net.p stack)) (Packet.Refused 4)) (sym d)
-        ∙ sym (ap (λ (k : Checked). packet_from k (ok_packet net U D stack) (number net.p stack)) ready_is)
+  pub no_node : net.n ≤ U → Err Refusal.Range ≡ packet_of net t U D stack
+  unfolding ok_packet
+  no_node high = answers false (simp (le-ltb U net.n high))
 
-    size : ok_size net.p net.h ≡ true
-    size = (valid net (is_ready net t s ready_is).network).size
+  pub no_destination : U < net.n → net.n ≤ D → Err Refusal.Range ≡ packet_of net t U D stack
+  unfolding ok_packet
+  no_destination here high = answers false (simp (lt-ltb U net.n here, le-ltb D net.n high))
 
-    pub no_node : net.n ≤ U → Packet.Refused 4 ≡ packet_of net t U D stack
-    unfolding ok_packet
-    no_node high = answers false (simp (le-ltb U net.n high))
+  pub no_stack : (r : Refusal) → U < net.n → D < net.n → Err r ≡ number_of net.p net.h stack → Err r ≡ packet_of net t U D stack
+  unfolding ok_packet
+  no_stack r here there is =
+      let w = tested_err (ok_stack net.p net.h stack) (number net.p stack) Refusal.Range r (simp size at is) in
+      ap Err w.1 ∙ answers false (simp (lt-ltb U net.n here, lt-ltb D net.n there) w.0)
 
-    pub no_destination : U < net.n → net.n ≤ D → Packet.Refused 4 ≡ packet_of net t U D stack
-    unfolding ok_packet
-    no_destination here high = answers false (simp (lt-ltb U net.n here, le-ltb D net.n high))
-
-    pub no_stack : (r : ℕ) → U < net.n → D < net.n → {a : Answer} → a ≡ number_of net.p net.h stack → a ≡ Answer.Refused r → Packet.Refused r ≡ packet_of
-        net t U D stack
-    unfolding ok_packet
-    no_stack r here there is d =
-        let w = refused_so (ok_stack net.p net.h stack) (number net.p stack) r (simp size at (sym is ∙ d)) in
-        ap Packet.Refused w.1 ∙ answers false (simp (lt-ltb U net.n here, lt-ltb D net.n there) w.0)
-
-    pub good_packet : (N : ℕ) → U < net.n → D < net.n → {a : Answer} → a ≡ number_of net.p net.h stack → a ≡ Answer.Value N → Packet.Number s N ≡ packet_of
-        net t U D stack
-    unfolding ok_packet
-    good_packet N here there is d =
-        let w = numbered_so (ok_stack net.p net.h stack) (number net.p stack) N (simp size at (sym is ∙ d)) in
-        ap (Packet.Number s) w.1 ∙ answers true (simp (lt-ltb U net.n here, lt-ltb D net.n there) w.0)
+  pub good_packet : (N : ℕ) → U < net.n → D < net.n → Ok N ≡ number_of net.p net.h stack → Ok (packet s N) ≡ packet_of net t U D stack
+  unfolding ok_packet
+  good_packet N here there is =
+      let w = tested_ok (ok_stack net.p net.h stack) (number net.p stack) N Refusal.Range (simp size at is) in
+      ap (λ (k : ℕ). Ok (packet s k)) w.1 ∙ answers true (simp (lt-ltb U net.n here, lt-ltb D net.n there) w.0)
 
 -- ---- what lookup and carry know
 pub record Begun (net : Network) (t : Table) (U D : ℕ) (stack : List ℕ) (s N : ℕ) : Type 0 where
@@ -76,15 +61,28 @@ pub record Begun (net : Network) (t : Table) (U D : ℕ) (stack : List ℕ) (s N
   pub good : ok_packet net U D stack ≡ true
   pub number_is : N ≡ number net.p stack
 
+-- a call that is refused before it begins: what it answers is told by the refusal's number
+pub record Over {A : Type 0} (r : Refusal) (refused : ℕ → A) (tested : A) : Type 0 where
+  pub number : ℕ
+  pub some : eqb number 0 ≡ false
+  pub named_so : r ≡ named number
+  pub answers : refused number ≡ tested
+
 module _ (net : Network) (t : Table) (U D : ℕ) (stack : List ℕ) where
-  pub is_begun : (s N : ℕ) {k : Packet} → k ≡ packet_of net t U D stack → k ≡ Packet.Number s N → Begun net t U D stack s N
-  is_begun s N is e = go (ready_of net (length t.cost) (length t.way) (length t.waiting)) refl (ok_packet net U D stack) refl (sym is ∙ e)
+  pub is_begun : (k : Packet) → Ok k ≡ packet_of net t U D stack → Begun net t U D stack k.stacks k.number
+  is_begun k is = go (ready_of net (length t.cost) (length t.way) (length t.waiting)) refl (ok_packet net U D stack) refl is
     where
-      go : (k : Checked) → ready_of net (length t.cost) (length t.way) (length t.waiting) ≡ k → (ok : Bool) → ok_packet net U D stack ≡ ok
-          → packet_from k ok (number net.p stack) ≡ Packet.Number s N → Begun net t U D stack s N
-      go (Checked.Stacks m) u true v d = let q : m ≡ s = cc in record { ready = is_ready net t s (u ∙ ap Checked.Stacks q); good = v; number_is = cc }
-      go (Checked.Stacks m) u false v d = absurd (let z : ◌≡◌ {A = ℕ} 0 1 = cc in omega arith)
-      go (Checked.Refused r) u ok v d = absurd (let z : ◌≡◌ {A = ℕ} 0 1 = cc in omega arith)
+      go : (a : Result ℕ Refusal) → ready_of net (length t.cost) (length t.way) (length t.waiting) ≡ a → (ok : Bool) → ok_packet net U D stack ≡ ok
+          → Ok k ≡ packet_from a ok (number net.p stack) → Begun net t U D stack k.stacks k.number
+      go (Ok m) u true v d =
+          let q : packet m (number net.p stack) ≡ k = cc in
+          record {
+            ready = is_ready net t k.stacks (u ∙ ap (λ (x : Packet). Ok x.stacks) q);
+            good = v;
+            number_is = sym (ap (λ (x : Packet). x.number) q);
+          }
+      go (Ok m) u false v d = absurd (let z : ◌≡◌ {A = ℕ} 0 1 = cc in omega arith)
+      go (Err r) u ok v d = absurd (let z : ◌≡◌ {A = ℕ} 0 1 = cc in omega arith)
 
   -- the packet stands at one of the nodes, with a number that a stack has
   pub placed : (s N : ℕ) → Begun net t U D stack s N → Placed net s U D N
@@ -111,16 +109,19 @@ module _ (net : Network) (t : Table) (U D : ℕ) (stack : List ℕ) where
     pub goes_on : (s N : ℕ) → Begun net t U D stack s N → good ≡ tested
     goes_on s N b = sym (begun net t s b.ready _ _ ∙ ap (λ (ok : Bool). cond ok good (refused 4)) b.good)
 
-    pub is_over : (r : ℕ) {k : Packet} → k ≡ packet_of net t U D stack → k ≡ Packet.Refused r → refused r ≡ tested
-    is_over r is e = go (ready_of net (length t.cost) (length t.way) (length t.waiting)) refl (ok_packet net U D stack) refl (sym is ∙ e)
+    pub is_over : (r : Refusal) → Err r ≡ packet_of net t U D stack → Over r refused tested
+    is_over r is = go (ready_of net (length t.cost) (length t.way) (length t.waiting)) refl (ok_packet net U D stack) refl is
       where
-        go : (k : Checked) → ready_of net (length t.cost) (length t.way) (length t.waiting) ≡ k → (ok : Bool) → ok_packet net U D stack ≡ ok
-            → packet_from k ok (number net.p stack) ≡ Packet.Refused r → refused r ≡ tested
-        go (Checked.Stacks m) u true v d = absurd (let z : ◌≡◌ {A = ℕ} 0 1 = cc in omega arith)
-        go (Checked.Stacks m) u false v d =
-            let q : r ≡ 4 = cc in
-            ap refused q ∙ sym (begun net t m (is_ready net t m u) _ _ ∙ ap (λ (ok : Bool). cond ok good (refused 4)) v)
-        go (Checked.Refused x) u ok v d =
-            let q : r ≡ x = cc in
+        go : (a : Result ℕ Refusal) → ready_of net (length t.cost) (length t.way) (length t.waiting) ≡ a → (ok : Bool) → ok_packet net U D stack ≡ ok
+            → Err r ≡ packet_from a ok (number net.p stack) → Over r refused tested
+        go (Ok m) u true v d = absurd (let z : ◌≡◌ {A = ℕ} 0 1 = cc in omega arith)
+        go (Ok m) u false v d = record {
+          number = 4;
+          some = refl;
+          named_so = cc;
+          answers = sym (begun net t m (is_ready net t m u) _ _ ∙ ap (λ (ok : Bool). cond ok good (refused 4)) v);
+        }
+        go (Err x) u ok v d =
             let w = is_refused net t x u in
-            ap refused (q ∙ sym w.0) ∙ sym (stopped net t x w _ _)
+            let q : r ≡ x = cc in
+            record { number = refusal net t; some = w.1; named_so = q ∙ w.0; answers = sym (stopped net t w.1 _ _) }

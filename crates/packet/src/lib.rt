@@ -2,59 +2,39 @@
 #![tactic(auto)]
 
 ghost use Rattle.std.specs.Prelude.{◌≡◌};
-ghost use Rattle.network.specs.Network.{network_of};
-ghost use Rattle.table.specs.Table.{table_of};
+ghost use Rattle.network.specs.Handed.{network};
+ghost use Rattle.table.specs.Handed.{table_seen};
 ghost use Rattle.packet.specs.Packet.{packet_of};
 
-use network::Checked;
-use stacks::Answer;
+use network::Network;
+use refusal::Refusal;
+use table::Table;
+use table::ready::ready;
 
-// How many stacks there are and the number of the packet's, or the refusal's number.
-#[derive(Clone, Copy)]
-pub enum Packet {
-    Number(usize, usize),
-    Refused(u32),
+/// A packet that is not refused: how many stacks its network has, and the number of its own.
+#[derive(Clone, Copy, Debug, PartialEq, Eq, Drop)]
+pub struct Packet {
+    pub stacks: usize,
+    pub number: usize,
 }
 
-// Refusals 1 to 4, but for the limit of carry.
+/// Refusals 1 to 4, but for the limit of carry.
 pub fn begin(
-    n: usize,
-    p: usize,
-    h: usize,
-    links: &[u16],
-    functions: &[u16],
-    cost: &[u32],
-    way: &[u16],
-    waiting: &[u32],
+    net: &Network,
+    table: &Table,
     node: usize,
     destination: usize,
     stack: &[u8],
-) -> Packet
-    ensures { result ≡ packet_of (network_of n p h links.now functions.now) (table_of cost.now way.now waiting.now)
-        node destination stack.now }
+) -> Result<Packet, Refusal>
+    ensures { result ≡ packet_of (network net.now) (table_seen table.now) node destination stack.now }
 {
-    match table::ready::ready(
-        n,
-        p,
-        h,
-        links,
-        functions,
-        cost.len(),
-        way.len(),
-        waiting.len(),
-    ) {
-        Checked::Stacks(most) => {
-            if n <= node {
-                return Packet::Refused(4);
-            }
-            if n <= destination {
-                return Packet::Refused(4);
-            }
-            match stacks::number_of(p, h, stack) {
-                Answer::Value(number) => Packet::Number(most, number),
-                Answer::Refused(refusal) => Packet::Refused(refusal),
-            }
-        }
-        Checked::Refused(refusal) => Packet::Refused(refusal),
+    let stacks = ready(net, table.cost.len(), table.way.len(), table.waiting.len())?;
+    if net.n <= node {
+        return Err(Refusal::Range);
     }
+    if net.n <= destination {
+        return Err(Refusal::Range);
+    }
+    let number = stacks::number_of(net.p, net.h, stack)?;
+    Ok(Packet { stacks, number })
 }
