@@ -1,9 +1,10 @@
 -- What `fresh` knows and leaves: the filled lists, and at the end the fresh table and its count.
-use Prim.Native.Nat.{ℕ, ◌+◌, ◌*◌, ◌/◌, ◌≤◌}
+use Prim.Native.Nat.{ℕ, ◌+◌, ◌*◌, ◌/◌}
 use native.Mathlib.Omega.{arith}
 use mathlib.Core.Path.{◌≡◌, refl, sym, ap, ◌∙◌}
 use mathlib.Core.List.{List}
-use mathlib.Core.Bool.{Bool, cond}
+use mathlib.Core.Bool.{Bool, false, cond}
+use lib.Dec.{eqb}
 use lib.ListN.{length, replicate}
 use Rattle.lists.specs.Lists.{tabulate}
 use Rattle.lists.proofs.Tables.{tabulate_same, tabulate_one}
@@ -15,7 +16,9 @@ use Rattle.network.proofs.Laws.{valid}
 use Rattle.table.specs.Table.{Table, table_of, no_row, no_way, rows_all, home_at, home, fresh}
 use Rattle.table.specs.Answers.{refusal, fresh_answer, fresh_table}
 use Rattle.fresh.specs.Filling.{Shape, set_below, is_home, costs_below, waits_below}
-use Rattle.table.specs.declared.Counted.{Counted}
+use Rattle.std.specs.Prelude.{Ok, Err}
+use Rattle.refusal.specs.declared.Refusal.{Refusal}
+use Rattle.refusal.specs.Numbers.{named}
 use Rattle.table.proofs.Begins.{Ready, begun, stopped}
 use Rattle.fresh.proofs.HomePlaces.{below_none, below_all, past_rows}
 
@@ -79,15 +82,16 @@ module _ (net : Network) (t : Table) (s : ℕ) (ready : Ready net t s) where
         ∙ ap (λ (l : List ℕ). table_of (fresh net).cost (fresh net).way l) waiting_fresh
         ∙ sym (begun net t s ready (fresh net) t)
 
-    pub fresh_count : (r : ℕ) → r ≡ ones_in waiting → Counted.Messages r ≡ fresh_answer net t
+    pub fresh_count : (r : ℕ) → r ≡ ones_in waiting → Ok r ≡ fresh_answer net t
     fresh_count r e =
-        ap Counted.Messages (e ∙ ap ones_in waiting_fresh)
-        ∙ sym (begun net t s ready (Counted.Messages (ones_in (fresh net).waiting)) _)
+        ap Ok (e ∙ ap ones_in waiting_fresh)
+        ∙ sym (begun net t s ready (Ok (ones_in (fresh net).waiting)) (Err (named (refusal net t))))
 
 -- a refusal leaves the table as it was
-pub fresh_refused : (net : Network) (t : Table) (r : ℕ) → (refusal net t ≡ r) × (1 ≤ r) → (Counted.Refused r ≡ fresh_answer net t) × (t ≡ fresh_table net t)
+pub fresh_refused : (net : Network) (t : Table) (r : Refusal) → (r ≡ named (refusal net t)) × (eqb (refusal net t) 0 ≡ false)
+    → (Err r ≡ fresh_answer net t) × (t ≡ fresh_table net t)
 unfolding fresh_table
 fresh_refused net t r h = (
-  ap Counted.Refused (sym h.0) ∙ sym (stopped net t r h _ (Counted.Refused (refusal net t))),
-  sym (stopped net t r h (fresh net) t),
+  ap Err h.0 ∙ sym (stopped net t h.1 (Ok (ones_in (fresh net).waiting)) (Err (named (refusal net t)))),
+  sym (stopped net t h.1 (fresh net) t),
 )

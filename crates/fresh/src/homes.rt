@@ -3,33 +3,32 @@ ghost use Rattle.std.specs.Prelude.{◌≡◌, ◌+◌, ◌*◌, ◌<◌};
 ghost use Rattle.words.specs.Words.{ones_in};
 ghost use Rattle.fresh.specs.Filling.{Shape, costs_below, waits_below};
 
+use network::Network;
+
 // The rows of one node for itself: for each protocol that it accepts cost 0 and a message to every neighbour. No other row of the node is a home.
 // Takes and answers how many messages wait, so that nobody need count them again.
 pub(crate) fn node_homes(
-    n: usize,
-    p: usize,
+    net: &Network,
     stacks: usize,
-    links: &[u16],
-    functions: &[u16],
     node: usize,
     cost: &mut [u32],
     waiting: &mut [u32],
     before: u64,
 ) -> u64
-    requires { Shape n p stacks × (node < n)
-        × (cost.old ≡ costs_below n p stacks functions.now ((node * n + node) * stacks))
-        × (waiting.old ≡ waits_below n p stacks functions.now links.now ((node * n + node) * stacks))
+    requires { Shape net.now.n net.now.p stacks × (node < net.now.n)
+        × (cost.old ≡ costs_below net.now.n net.now.p stacks net.now.functions.now ((node * net.now.n + node) * stacks))
+        × (waiting.old ≡ waits_below net.now.n net.now.p stacks net.now.functions.now net.now.links.now ((node * net.now.n + node) * stacks))
         × (before ≡ ones_in waiting.old) }
-    ensures { (cost.new ≡ costs_below n p stacks functions.now (((node + 1) * n + (node + 1)) * stacks))
-        × (waiting.new ≡ waits_below n p stacks functions.now links.now (((node + 1) * n + (node + 1)) * stacks))
+    ensures { (cost.new ≡ costs_below net.now.n net.now.p stacks net.now.functions.now (((node + 1) * net.now.n + (node + 1)) * stacks))
+        × (waiting.new ≡ waits_below net.now.n net.now.p stacks net.now.functions.now net.now.links.now (((node + 1) * net.now.n + (node + 1)) * stacks))
         × (result ≡ ones_in waiting.new) }
 {
-    let word = network::neighbours(n, links, node);
-    let each = bits::ones(word) as u64;
-    let first = (node * n + node) * stacks;
+    let word = net.neighbours(node);
+    let each = u64::from(bits::ones(word));
+    let first = (node * net.n + node) * stacks;
     let mut messages = before;
-    for x in 0..p {
-        if gateways::accepts(n, p, functions, node, x) {
+    for x in 0..net.p {
+        if gateways::accepts(net, node, x) {
             cost[first + x] = 0;
             waiting[first + x] = word;
             messages += each;
@@ -39,26 +38,16 @@ pub(crate) fn node_homes(
 }
 
 // The same for every node; answers how many messages wait.
-pub(crate) fn all_homes(
-    n: usize,
-    p: usize,
-    stacks: usize,
-    links: &[u16],
-    functions: &[u16],
-    cost: &mut [u32],
-    waiting: &mut [u32],
-) -> u64
-    requires { Shape n p stacks × (cost.old ≡ costs_below n p stacks functions.now 0)
-        × (waiting.old ≡ waits_below n p stacks functions.now links.now 0) }
-    ensures { (cost.new ≡ costs_below n p stacks functions.now ((n * n + n) * stacks))
-        × (waiting.new ≡ waits_below n p stacks functions.now links.now ((n * n + n) * stacks))
+pub(crate) fn all_homes(net: &Network, stacks: usize, cost: &mut [u32], waiting: &mut [u32]) -> u64
+    requires { Shape net.now.n net.now.p stacks × (cost.old ≡ costs_below net.now.n net.now.p stacks net.now.functions.now 0)
+        × (waiting.old ≡ waits_below net.now.n net.now.p stacks net.now.functions.now net.now.links.now 0) }
+    ensures { (cost.new ≡ costs_below net.now.n net.now.p stacks net.now.functions.now ((net.now.n * net.now.n + net.now.n) * stacks))
+        × (waiting.new ≡ waits_below net.now.n net.now.p stacks net.now.functions.now net.now.links.now ((net.now.n * net.now.n + net.now.n) * stacks))
         × (result ≡ ones_in waiting.new) }
 {
     let mut messages: u64 = 0;
-    for node in 0..n {
-        messages = node_homes(
-            n, p, stacks, links, functions, node, cost, waiting, messages,
-        );
+    for node in 0..net.n {
+        messages = node_homes(net, stacks, node, cost, waiting, messages);
     }
     messages
 }

@@ -2,47 +2,26 @@
 #![tactic(auto)]
 
 ghost use Rattle.std.specs.Prelude.{◌≡◌};
-ghost use Rattle.network.specs.Network.{network_of};
-ghost use Rattle.table.specs.Table.{table_of};
+ghost use Rattle.network.specs.Handed.{network};
+ghost use Rattle.table.specs.Handed.{table_held};
 ghost use Rattle.table.specs.Answers.{fresh_answer, fresh_table};
 
 mod homes;
 
 use homes::all_homes;
-use network::Checked;
-use table::Counted;
+use network::Network;
+use refusal::Refusal;
+use table::TableMut;
 use table::ready::ready;
 
-// The table before any message is delivered; answers how many wait.
-pub fn fresh(
-    n: usize,
-    p: usize,
-    h: usize,
-    links: &[u16],
-    functions: &[u16],
-    cost: &mut [u32],
-    way: &mut [u16],
-    waiting: &mut [u32],
-) -> Counted
-    ensures { (result ≡ fresh_answer (network_of n p h links.now functions.now) (table_of cost.old way.old waiting.old))
-        × (table_of cost.new way.new waiting.new ≡ fresh_table (network_of n p h links.now functions.now) (table_of cost.old way.old waiting.old)) }
+/// The table before any message is delivered; answers how many wait.
+pub fn fresh(net: &Network, table: &mut TableMut) -> Result<u64, Refusal>
+    ensures { (result ≡ fresh_answer (network net.now) (table_held table.old))
+        × (table_held table.new ≡ fresh_table (network net.now) (table_held table.old)) }
 {
-    match ready(
-        n,
-        p,
-        h,
-        links,
-        functions,
-        cost.len(),
-        way.len(),
-        waiting.len(),
-    ) {
-        Checked::Stacks(stacks) => {
-            cost.fill(4294967295); // no row
-            way.fill(65535); // no way
-            waiting.fill(0);
-            Counted::Messages(all_homes(n, p, stacks, links, functions, cost, waiting))
-        }
-        Checked::Refused(refusal) => Counted::Refused(refusal),
-    }
+    let stacks = ready(net, table.cost.len(), table.way.len(), table.waiting.len())?;
+    table.cost.fill(4294967295); // no row
+    table.way.fill(65535); // no way
+    table.waiting.fill(0);
+    Ok(all_homes(net, stacks, table.cost, table.waiting))
 }

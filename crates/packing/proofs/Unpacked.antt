@@ -5,6 +5,10 @@ use mathlib.Core.Path.{◌≡◌, refl, sym, ap, ◌∙◌}
 use mathlib.Core.Bool.{cond}
 use lib.Dec.{eqb}
 use borrow.Author.Tests.{eq-eqb, ne_eqb}
+use Rattle.std.specs.Prelude.{Result, Err}
+use Rattle.refusal.specs.declared.Refusal.{Refusal}
+use Rattle.refusal.specs.Numbers.{refusal_number, named}
+use Rattle.refusal.proofs.Named.{named_number}
 use Rattle.packing.specs.Packing.{pack_refused, pack_end, is_refused, refusal_in, end_in}
 use Rattle.packing.specs.Ranges.{RefusalFits}
 
@@ -19,6 +23,29 @@ pub refusal_read : {A : Type 0} (r : ℕ) → RefusalFits r → (a : A) (refused
 refusal_read r f a refused =
     ap (λ b. cond b a (refused (refusal_in (pack_refused r)))) (ne_eqb (is_refused (pack_refused r)) 0 (λ e. omega (arith, e, refused_top r f)))
     ∙ ap refused (refused_low r f)
+
+-- every refusal's number is within the range, so a refused answer is read back as it was
+pub number_fits : (r : Refusal) → RefusalFits (refusal_number r)
+number_fits Refusal.Sizes = record { some = omega arith; most = omega arith }
+number_fits Refusal.Links = record { some = omega arith; most = omega arith }
+number_fits Refusal.Table = record { some = omega arith; most = omega arith }
+number_fits Refusal.Range = record { some = omega arith; most = omega arith }
+number_fits Refusal.NoMessage = record { some = omega arith; most = omega arith }
+number_fits Refusal.NoRoute = record { some = omega arith; most = omega arith }
+number_fits Refusal.Broken = record { some = omega arith; most = omega arith }
+number_fits Refusal.Limit = record { some = omega arith; most = omega arith }
+number_fits Refusal.NoRoom = record { some = omega arith; most = omega arith }
+number_fits Refusal.Short = record { some = omega arith; most = omega arith }
+number_fits Refusal.WrongVersion = record { some = omega arith; most = omega arith }
+number_fits Refusal.Header = record { some = omega arith; most = omega arith }
+number_fits Refusal.Beyond = record { some = omega arith; most = omega arith }
+number_fits Refusal.Checksum = record { some = omega arith; most = omega arith }
+number_fits Refusal.Fragment = record { some = omega arith; most = omega arith }
+number_fits Refusal.Higher = record { some = omega arith; most = omega arith }
+
+pub refused_back : {A : Type 0} (r : Refusal) (a : Result A Refusal)
+    → cond (eqb (is_refused (pack_refused (refusal_number r))) 0) a (Err (named (refusal_in (pack_refused (refusal_number r))))) ≡ Err r
+refused_back r a = refusal_read (refusal_number r) (number_fits r) a (λ k. Err (named k)) ∙ ap Err (named_number r)
 
 pub value_read : {A : Type 0} (x : ℕ) → x < 2 ^ 63 → (a b : A) → cond (eqb (is_refused x) 0) a b ≡ a
 value_read x h a b = let e : is_refused x ≡ 0 = omega arith in ap (λ t. cond t a b) (eq-eqb (is_refused x) 0 e)

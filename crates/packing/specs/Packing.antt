@@ -1,5 +1,7 @@
--- How a refusal stands in one 64-bit number for a C caller, and how the parts of an answer are read back, as the header's macros do it.
-use Rattle.std.specs.Prelude.{ℕ, ◌+◌, ◌/◌, ◌%◌, ◌^◌, cond, eqb}
+-- How an answer or a refusal stands in one 64-bit number for a C caller, and how the parts of an answer are read back, as the header's macros do it.
+use Rattle.std.specs.Prelude.{ℕ, ◌+◌, ◌/◌, ◌%◌, ◌^◌, cond, eqb, Option, Some, None, Result, Ok, Err}
+use Rattle.refusal.specs.declared.Refusal.{Refusal}
+use Rattle.refusal.specs.Numbers.{refusal_number}
 
 -- "refused where the top bit is set, and then the low bits are the refusal number"
 abbrev pub pack_refused : ℕ → ℕ
@@ -8,6 +10,20 @@ pack_refused refusal = 2 ^ 63 + refusal
 -- a refusal that may be 0, which is none
 abbrev pub pack_end : ℕ → ℕ
 pack_end refusal = cond (eqb refusal 0) 0 (pack_refused refusal)
+
+-- a number stands for itself
+abbrev pub pack_itself : ℕ → ℕ
+pack_itself value = value
+
+-- of numbers that begin at 1: 0 for none
+abbrev pub pack_option : Option ℕ → ℕ
+pack_option None = 0
+pack_option (Some value) = value
+
+-- a value in its own way, and a refusal by its number
+abbrev pub pack_result : {A : Type 0} → (A → ℕ) → Result A Refusal → ℕ
+pack_result pack (Ok value) = pack value
+pack_result pack (Err refusal) = pack_refused (refusal_number refusal)
 
 -- ---- the parts read back: IS_REFUSED, the low bits of a refusal, REFUSAL, IS_FOUND, FIRST_SENDER or NEXT_NODE, FIRST_RECEIVER or FUNCTION,
 -- FIRST_DESTINATION, FIRST_NUMBER or COST, and NUMBER

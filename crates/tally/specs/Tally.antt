@@ -1,6 +1,5 @@
 -- "Tally. One small record of the caller's, brought up to date in place: deliveries done, offers taken, calls refused."
-use Rattle.std.specs.Prelude.{ℕ, ◌+◌, min, cond, eqb}
-use Rattle.table.specs.declared.Delivered.{Delivered}
+use Rattle.std.specs.Prelude.{ℕ, ◌+◌, min, Result, Ok, Err, Option, Some, None}
 use Rattle.table.specs.declared.Ran.{Ran}
 use Rattle.tally.specs.declared.Tally.{Tally}
 
@@ -16,13 +15,14 @@ added_to t deliveries offers refused = record {
 }
 
 -- "It goes with deliver and run": a delivery adds itself and the rows that took its offer, a refusal one refused call
-abbrev pub after_delivery : Tally → Delivered → Tally
-after_delivery t (Delivered.Rows rows) = added_to t 1 rows 0
-after_delivery t (Delivered.Refused refusal) = added_to t 0 0 1
+abbrev pub after_delivery : {E : Type 0} → Tally → Result ℕ E → Tally
+after_delivery t (Ok rows) = added_to t 1 rows 0
+after_delivery t (Err e) = added_to t 0 0 1
 
 -- "a run adds its deliveries and their offers, and one refused call where it ends in a refusal"
-abbrev pub calls_refused : ℕ → ℕ
-calls_refused refusal = cond (eqb refusal 0) 0 1
+abbrev pub calls_refused : {E : Type 0} → Option E → ℕ
+calls_refused None = 0
+calls_refused (Some e) = 1
 
 abbrev pub after_run : Tally → Ran → Tally
 after_run t ran = added_to t ran.done ran.offers (calls_refused ran.refused)

@@ -2,13 +2,13 @@
 #![tactic(auto)]
 
 ghost use Rattle.std.specs.Prelude.{◌≡◌, ◌+◌};
-ghost use Rattle.tally.specs.Tally.{added_to, after_delivery, after_run, calls_refused, capped};
+ghost use Rattle.tally.specs.Tally.{added_to, after_delivery, after_run, capped};
 
-use table::{Delivered, Ran};
+use table::Ran;
 
 // Deliveries done, offers that rows took, and calls refused.
 #[repr(C)]
-#[derive(Clone, Copy)]
+#[derive(Clone, Copy, Debug, PartialEq, Eq, Drop)]
 pub struct Tally {
     pub deliveries: u32,
     pub offers: u32,
@@ -19,21 +19,11 @@ pub struct Tally {
 fn capped_sum(x: u32, more: u64) -> u32
     ensures { result ≡ capped (x + more) }
 {
-    let room = (4294967295 - x) as u64;
+    let room = u64::from(4294967295 - x);
     if room < more {
         return 4294967295;
     }
     x + more as u32
-}
-
-// 1 where a run ended in a refusal.
-fn calls_refused(refusal: u32) -> u32
-    ensures { result ≡ calls_refused refusal }
-{
-    if refusal == 0 {
-        return 0;
-    }
-    1
 }
 
 // The tally with so many more of each.
@@ -43,17 +33,17 @@ pub fn added(t: Tally, deliveries: u64, offers: u64, refused: u32) -> Tally
     Tally {
         deliveries: capped_sum(t.deliveries, deliveries),
         offers: capped_sum(t.offers, offers),
-        refused: capped_sum(t.refused, refused as u64),
+        refused: capped_sum(t.refused, u64::from(refused)),
     }
 }
 
-// The tally after a call of deliver that answered this.
-pub fn after_delivery(t: Tally, answer: Delivered) -> Tally
+// The tally after a call of deliver that answered this; which error it is does not count.
+pub fn after_delivery<E: Drop>(t: Tally, answer: Result<usize, E>) -> Tally
     ensures { result ≡ after_delivery t answer }
 {
     match answer {
-        Delivered::Rows(rows) => added(t, 1, rows as u64, 0),
-        Delivered::Refused(refusal) => added(t, 0, 0, 1),
+        Ok(rows) => added(t, 1, rows as u64, 0),
+        Err(_) => added(t, 0, 0, 1),
     }
 }
 
@@ -61,12 +51,8 @@ pub fn after_delivery(t: Tally, answer: Delivered) -> Tally
 pub fn after_run(t: Tally, answer: Ran) -> Tally
     ensures { result ≡ after_run t answer }
 {
-    added(
-        t,
-        answer.done as u64,
-        answer.offers,
-        calls_refused(answer.refused),
-    )
+    let refused = u32::from(answer.refused.is_some());
+    added(t, u64::from(answer.done), answer.offers, refused)
 }
 
 // The caller's record, brought up to date in place.

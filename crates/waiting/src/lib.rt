@@ -2,76 +2,39 @@
 #![tactic(auto)]
 
 ghost use Rattle.std.specs.Prelude.{◌≡◌};
-ghost use Rattle.network.specs.Network.{network_of};
-ghost use Rattle.table.specs.Table.{table_of};
+ghost use Rattle.network.specs.Handed.{network};
+ghost use Rattle.table.specs.Handed.{table_seen};
 ghost use Rattle.table.specs.Answers.{count_answer, first_answer};
 
 mod search;
 
-use network::Checked;
+use network::Network;
+use refusal::Refusal;
 use search::search;
 use table::ready::ready;
-use table::{Counted, First};
-use words::Found;
+use table::{Message, Table};
 
-// How many messages wait in the whole table.
-pub fn count(
-    n: usize,
-    p: usize,
-    h: usize,
-    links: &[u16],
-    functions: &[u16],
-    cost: &[u32],
-    way: &[u16],
-    waiting: &[u32],
-) -> Counted
-    ensures { result ≡ count_answer (network_of n p h links.now functions.now) (table_of cost.now way.now waiting.now) }
+/// How many messages wait in the whole table.
+pub fn count(net: &Network, table: &Table) -> Result<u64, Refusal>
+    ensures { result ≡ count_answer (network net.now) (table_seen table.now) }
 {
-    match ready(
-        n,
-        p,
-        h,
-        links,
-        functions,
-        cost.len(),
-        way.len(),
-        waiting.len(),
-    ) {
-        Checked::Stacks(_) => Counted::Messages(words::ones_in(waiting)),
-        Checked::Refused(refusal) => Counted::Refused(refusal),
-    }
+    ready(net, table.cost.len(), table.way.len(), table.waiting.len())?;
+    Ok(words::ones_in(table.waiting))
 }
 
-// The first message that waits, by node, then row, then lowest bit.
-pub fn first_waiting(
-    n: usize,
-    p: usize,
-    h: usize,
-    links: &[u16],
-    functions: &[u16],
-    cost: &[u32],
-    way: &[u16],
-    waiting: &[u32],
-) -> First
-    ensures { result ≡ first_answer (network_of n p h links.now functions.now) (table_of cost.now way.now waiting.now) }
+/// The first message that waits, by node, then row, then lowest bit.
+pub fn first_waiting(net: &Network, table: &Table) -> Result<Option<Message>, Refusal>
+    ensures { result ≡ first_answer (network net.now) (table_seen table.now) }
 {
-    match ready(
-        n,
-        p,
-        h,
-        links,
-        functions,
-        cost.len(),
-        way.len(),
-        waiting.len(),
-    ) {
-        Checked::Stacks(stacks) => {
-            let Found::At(at, bit) = search(n, n * stacks, waiting) else {
-                return First::Quiet;
-            };
-            let pair = at / stacks;
-            First::Message(pair / n, pair % n, at % stacks + 1, bit)
-        }
-        Checked::Refused(refusal) => First::Refused(refusal),
-    }
+    let stacks = ready(net, table.cost.len(), table.way.len(), table.waiting.len())?;
+    let Some(found) = search(net.n, net.n * stacks, table.waiting) else {
+        return Ok(None);
+    };
+    let pair = found.word / stacks;
+    Ok(Some(Message {
+        sender: pair / net.n,
+        receiver: found.bit,
+        destination: pair % net.n,
+        number: found.word % stacks + 1,
+    }))
 }

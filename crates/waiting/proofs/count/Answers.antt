@@ -1,26 +1,26 @@
 -- `waiting::count` meets its contract.
 use mathlib.Core.Path.{sym, ap, ◌∙◌}
 use native.Mathlib.Omega.{arith}
+use Rattle.std.proofs.Common.{rules, ◌≡◌, Ok, Err}
+use Rattle.words.specs.Words.{ones_in}
 use Rattle.words.proofs.Search.{count_few}
-use Rattle.network.specs.Network.{network_of}
-use Rattle.table.specs.Table.{table_of}
-use Rattle.table.specs.declared.Counted.{Counted}
-use Rattle.table.proofs.Begins.{is_ready, is_refused, begun, stopped, rows_few}
+use Rattle.network.specs.Handed.{network}
+use Rattle.table.specs.Handed.{table_seen}
+use Rattle.table.proofs.Begins.{is_ready, rows_few}
+use Rattle.waiting.proofs.Found.{answers, refuses}
 use Rattle.waiting.proofs.count.Goals as goal
 
-pub returns-in-Stacks : goal.returns-in-Stacks
-returns-in-Stacks c =
+pub returns-in_err-ready : goal.returns-in_err-ready
+returns-in_err-ready c =
     let a = c.args in
-    let r = is_ready (network_of a.n a.p a.h a.links.now a.functions.now) (table_of a.cost.now a.way.now a.waiting.now) c.in-Stacks.field-0
-    (sym c.in-Stacks.ensures) in
-    ap Counted.Messages (c.ones_in.ensures ∙ count_few a.waiting.now
-    (omega (arith, rows_few (network_of a.n a.p a.h a.links.now a.functions.now) (table_of a.cost.now a.way.now a.waiting.now) c.in-Stacks.field-0 r)))
-    ∙ sym (begun (network_of a.n a.p a.h a.links.now a.functions.now) (table_of a.cost.now a.way.now a.waiting.now) c.in-Stacks.field-0 r _ _)
+    let same : c.from_residual.result ≡ Err c.in_err-ready.field-0.0 = search rules in
+    same ∙ refuses (network a.net.now) (table_seen a.table.now) _ c.in_err-ready.field-0.0 c.in_err-ready.ensures
 
-pub returns-in-Refused : goal.returns-in-Refused
-returns-in-Refused c =
+pub returns : goal.returns
+returns c =
     let a = c.args in
-    let h = is_refused (network_of a.n a.p a.h a.links.now a.functions.now) (table_of a.cost.now a.way.now a.waiting.now) c.in-Refused.refusal
-    (sym c.in-Refused.ensures) in
-    sym (stopped (network_of a.n a.p a.h a.links.now a.functions.now) (table_of a.cost.now a.way.now a.waiting.now) c.in-Refused.refusal h _ _
-    ∙ ap Counted.Refused h.0)
+    let words = a.table.now.waiting.now in
+    let r = is_ready (network a.net.now) (table_seen a.table.now) c.in_ok-ready.field-0 (sym c.in_ok-ready.ensures) in
+    let few = rows_few (network a.net.now) (table_seen a.table.now) c.in_ok-ready.field-0 r in
+    ap Ok (c.ones_in.ensures ∙ count_few words (omega (arith, few)))
+    ∙ answers (network a.net.now) (table_seen a.table.now) c.in_ok-ready.field-0 r (ones_in words)

@@ -1,52 +1,55 @@
 -- `waiting::first_waiting` meets its contract: a law for each thing that the search may find.
-use mathlib.Core.Path.{sym}
+use mathlib.Core.Path.{sym, ◌∙◌}
 use native.Mathlib.Nat.{mod-lt}
 use native.Mathlib.Omega.{arith}
-use Rattle.network.specs.Network.{network_of}
-use Rattle.table.specs.Table.{table_of}
-use Rattle.table.proofs.Begins.{Ready, is_ready, is_refused, divides, rows_few, rows_at_hand}
-use Rattle.waiting.proofs.Found.{first_message, first_quiet, first_refused}
+use Rattle.std.proofs.Common.{rules, ◌≡◌, Err}
+use Rattle.network.specs.Handed.{network}
+use Rattle.table.specs.Handed.{table_seen}
+use Rattle.table.proofs.Begins.{Ready, Divides, is_ready, divides, rows_few, rows_at_hand}
+use Rattle.waiting.proofs.Found.{refuses, first_message, first_quiet}
 use Rattle.waiting.proofs.first_waiting.Goals as goal
-use Rattle.waiting.proofs.first_waiting.Goals.{In-Stacks}
+use Rattle.waiting.proofs.first_waiting.Goals.{In_ok-stacks}
 
-prepared : (c : In-Stacks) → Ready (network_of c.args.n c.args.p c.args.h c.args.links.now c.args.functions.now)
-    (table_of c.args.cost.now c.args.way.now c.args.waiting.now) c.in-Stacks.stacks
-prepared c = is_ready _ _ _ (sym c.in-Stacks.ensures)
+prepared : (c : In_ok-stacks) → Ready (network c.args.net.now) (table_seen c.args.table.now) c.in_ok-stacks.stacks
+prepared c = is_ready _ _ _ (sym c.in_ok-stacks.ensures)
 
-pub overflow_mul-n : goal.overflow_mul-n
-overflow_mul-n c = omega (arith, divides _ _ _ (prepared (goal.at.overflow_mul-n c).In-Stacks))
+divisors : (c : In_ok-stacks) → Divides (network c.args.net.now) c.in_ok-stacks.stacks
+divisors c = divides _ _ _ (prepared c)
+
+pub returns-in_err-stacks : goal.returns-in_err-stacks
+returns-in_err-stacks c =
+    let a = c.args in
+    let same : c.from_residual.result ≡ Err c.in_err-stacks.field-0.0 = search rules in
+    same ∙ refuses (network a.net.now) (table_seen a.table.now) _ c.in_err-stacks.field-0.0 c.in_err-stacks.ensures
+
+pub overflow_mul-net : goal.overflow_mul-net
+overflow_mul-net c = omega (arith, divisors (goal.at.overflow_mul-net c).In_ok-stacks)
 
 pub search-requires : goal.search-requires
-search-requires c = (rows_at_hand _ _ _ (prepared (goal.at.search-requires c).In-Stacks), (rows_few _ _ _ (prepared (goal.at.search-requires c).In-Stacks)).0)
+search-requires c =
+    let r = prepared (goal.at.search-requires c).In_ok-stacks in
+    (rows_at_hand _ _ _ r, (rows_few _ _ _ r).0)
 
 pub returns-in_default : goal.returns-in_default
-returns-in_default c = first_quiet _ _ _ (prepared (goal.at.returns-in_default c).In-Stacks) (sym c.in_default.ensures)
+returns-in_default c = first_quiet _ _ _ (prepared (goal.at.returns-in_default c).In_ok-stacks) c.in_default.ensures
 
 pub nonzero_div-pair : goal.nonzero_div-pair
-nonzero_div-pair c = (divides _ _ _ (prepared (goal.at.nonzero_div-pair c).In-Stacks)).some
+nonzero_div-pair c = (divisors (goal.at.nonzero_div-pair c).In_ok-stacks).some
 
 pub nonzero_div-result : goal.nonzero_div-result
-nonzero_div-result c = (divides _ _ _ (prepared (goal.at.nonzero_div-result c).In-Stacks)).nodes
+nonzero_div-result c = (divisors (goal.at.nonzero_div-result c).In_ok-stacks).nodes
 
 pub nonzero_rem-result : goal.nonzero_rem-result
-nonzero_rem-result c = (divides _ _ _ (prepared (goal.at.nonzero_rem-result c).In-Stacks)).nodes
+nonzero_rem-result c = (divisors (goal.at.nonzero_rem-result c).In_ok-stacks).nodes
 
-pub nonzero_rem-result-in-Stacks : goal.nonzero_rem-result-in-Stacks
-nonzero_rem-result-in-Stacks c = (divides _ _ _ (prepared (goal.at.nonzero_rem-result-in-Stacks c).In-Stacks)).some
+pub nonzero_rem-result-2 : goal.nonzero_rem-result-2
+nonzero_rem-result-2 c = (divisors (goal.at.nonzero_rem-result-2 c).In_ok-stacks).some
 
 pub overflow_add-result : goal.overflow_add-result
-overflow_add-result c = omega (
-  arith,
-  mod-lt c.in-At.at (divides _ _ _ (prepared (goal.at.overflow_add-result c).In-Stacks)).some,
-  divides _ _ _
-      (prepared (goal.at.overflow_add-result c).In-Stacks),
-)
+overflow_add-result c =
+    let d = divisors (goal.at.overflow_add-result c).In_ok-stacks in
+    omega (arith, mod-lt c.in-Some.found.word d.some, d)
 
-pub returns-in-At : goal.returns-in-At
-returns-in-At c = first_message _ _ _ (prepared (goal.at.returns-in-At c).In-Stacks) c.in-At.at c.in-At.bit (sym c.in-At.ensures)
-
-pub returns-in-Refused : goal.returns-in-Refused
-returns-in-Refused c =
-    let h = is_refused (network_of c.args.n c.args.p c.args.h c.args.links.now c.args.functions.now)
-    (table_of c.args.cost.now c.args.way.now c.args.waiting.now) c.in-Refused.refusal (sym c.in-Refused.ensures) in
-    first_refused _ _ _ h
+pub returns : goal.returns
+returns c =
+    first_message _ _ _ (prepared (goal.at.returns c).In_ok-stacks) c.in-Some.found.word c.in-Some.found.bit c.in-Some.ensures

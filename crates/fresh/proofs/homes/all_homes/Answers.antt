@@ -9,9 +9,10 @@ use Rattle.fresh.proofs.homes.all_homes.Goals as goal
 
 pub loop-node-init : goal.loop-node-init
 loop-node-init c =
-    let e : 0 ≡ (0 * c.args.n + 0) * c.args.stacks = omega arith in (
-      c.requires.1 ∙ ap (costs_below c.args.n c.args.p c.args.stacks c.args.functions.now) e,
-      c.requires.2 ∙ ap (waits_below c.args.n c.args.p c.args.stacks c.args.functions.now c.args.links.now) e,
+    let net = c.args.net.now in
+    let e : 0 ≡ (0 * net.n + 0) * c.args.stacks = omega arith in (
+      c.requires.1 ∙ ap (costs_below net.n net.p c.args.stacks net.functions.now) e,
+      c.requires.2 ∙ ap (waits_below net.n net.p c.args.stacks net.functions.now net.links.now) e,
       sym (ap ones_in c.requires.2 ∙ none_waits _ _ _),
     )
 
@@ -28,9 +29,10 @@ loop-node-preserved c =
 pub returns : goal.returns
 returns c =
     let a = c.args in
+    let net = a.net.now in
     let l = c.loop-node in
-    let last : l.node ≡ a.n = omega arith in (
-      l.invariant.0 ∙ ap (λ k. costs_below a.n a.p a.stacks a.functions.now ((k * a.n + k) * a.stacks)) last,
-      l.invariant.1 ∙ ap (λ k. waits_below a.n a.p a.stacks a.functions.now a.links.now ((k * a.n + k) * a.stacks)) last,
+    let last : l.node ≡ net.n = omega arith in (
+      l.invariant.0 ∙ ap (λ k. costs_below net.n net.p a.stacks net.functions.now ((k * net.n + k) * a.stacks)) last,
+      l.invariant.1 ∙ ap (λ k. waits_below net.n net.p a.stacks net.functions.now net.links.now ((k * net.n + k) * a.stacks)) last,
       l.invariant.2,
     )

@@ -6,6 +6,6 @@ use Rattle.fresh.proofs.homes.all_homes.Given as goal
 
 abbrev pub invariant-loop-node : goal.invariant-loop-node
 invariant-loop-node l =
-    (l.cost ≡ costs_below l.n l.p l.stacks l.functions ((l.node * l.n + l.node) * l.stacks))
-    × (l.waiting ≡ waits_below l.n l.p l.stacks l.functions l.links ((l.node * l.n + l.node) * l.stacks))
+    (l.cost ≡ costs_below l.net.n l.net.p l.stacks l.net.functions.now ((l.node * l.net.n + l.node) * l.stacks))
+    × (l.waiting ≡ waits_below l.net.n l.net.p l.stacks l.net.functions.now l.net.links.now ((l.node * l.net.n + l.node) * l.stacks))
     × (l.messages ≡ ones_in l.waiting)

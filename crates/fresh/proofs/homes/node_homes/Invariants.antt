@@ -6,5 +6,5 @@ use Rattle.fresh.proofs.homes.node_homes.Given as goal
 
 abbrev pub invariant-loop-x : goal.invariant-loop-x
 invariant-loop-x l =
-    (l.cost ≡ costs_below l.n l.p l.stacks l.functions (l.first + l.x))
-    × (l.waiting ≡ waits_below l.n l.p l.stacks l.functions l.links (l.first + l.x)) × (l.messages ≡ ones_in l.waiting)
+    (l.cost ≡ costs_below l.net.n l.net.p l.stacks l.net.functions.now (l.first + l.x))
+    × (l.waiting ≡ waits_below l.net.n l.net.p l.stacks l.net.functions.now l.net.links.now (l.first + l.x)) × (l.messages ≡ ones_in l.waiting)
