@@ -2,13 +2,12 @@
 use Prim.Native.Nat.{ℕ, ◌+◌, ◌-◌, ◌*◌, ◌≤◌, ◌<◌}
 use native.Mathlib.Omega.{arith}
 use mathlib.Core.Path.{◌≡◌, refl, sym, ap, ◌∙◌}
-use mathlib.Core.List.{List}
 use mathlib.Core.Bool.{Bool, true, false, cond, ◌&&◌}
-use lib.ListN.{length, get_or, set, length-set}
+use lib.ListN.{length, get_or}
 use lib.Dec.{leb, ltb, eqb}
 use mir.Syntax.{w64}
 use mir.Val.{Fits}
-use borrow.Author.Tests.{leb-true, eqb-true, lt-ltb, le-leb, lt-leb}
+use borrow.Author.Tests.{leb-true, lt-ltb, le-leb, lt-leb}
 use Rattle.lists.proofs.Tests.{both}
 use Rattle.bits.specs.Bits.{has}
 use Rattle.table.specs.Table.{Table, ceiling, place_in, cost_in}
@@ -17,18 +16,23 @@ use Rattle.table.proofs.Rows.{place_parts}
 use Rattle.table.proofs.Order.{four_first, five_next, seven_last, then_none, all_pass}
 use Rattle.step.specs.Step.{ok_rows, refusal_in}
 use Rattle.step.specs.Steps.{told_of}
+use Rattle.std.specs.Prelude.{Ok, Err}
+use Rattle.refusal.specs.declared.Refusal.{Refusal}
+use Rattle.refusal.specs.Numbers.{named}
+use Rattle.refusal.proofs.Answers.{answered_ok}
+use Rattle.step.specs.Steps.{HasPart}
 use Rattle.step.specs.declared.Told.{Told}
 use Rattle.step.proofs.Tests.{Sizes, sizes, Numbers, numbers, room}
 
 -- ---- what is answered at each test
 module _ (n p s link : ℕ) (t : Table) (Q U D N : ℕ) where
-  refused : (k : ℕ) → refusal_in n p s link t Q U D N ≡ k → eqb k 0 ≡ false → Told.Refused k ≡ told_of n p s link t Q U D N
+  refused : (k : ℕ) → refusal_in n p s link t Q U D N ≡ k → eqb k 0 ≡ false → Err (named k) ≡ told_of n p s link t Q U D N
   refused k e some = simp (e, some)
 
   abbrev Fit : Type 0
   Fit = ok_rows n p s (length t.cost) (length t.way) (length t.waiting) ≡ true
 
-  pub bad_sizes : ok_rows n p s (length t.cost) (length t.way) (length t.waiting) ≡ false → Told.Refused 3 ≡ told_of n p s link t Q U D N
+  pub bad_sizes : ok_rows n p s (length t.cost) (length t.way) (length t.waiting) ≡ false → Err Refusal.Table ≡ told_of n p s link t Q U D N
   unfolding refusal_in
   bad_sizes e = refused 3 (simp e) refl
 
@@ -37,7 +41,7 @@ module _ (n p s link : ℕ) (t : Table) (Q U D N : ℕ) where
   unfolding refusal_in
   fits fit = simp fit
 
-  pub bad_numbers : Fit → ok_message_in n s Q U D N ≡ false → Told.Refused 4 ≡ told_of n p s link t Q U D N
+  pub bad_numbers : Fit → ok_message_in n s Q U D N ≡ false → Err Refusal.Range ≡ told_of n p s link t Q U D N
   bad_numbers fit e = refused 4 (fits fit ∙ four_first n s link t Q U D N e) refl
 
   -- the place as the code works it out
@@ -48,7 +52,7 @@ module _ (n p s link : ℕ) (t : Table) (Q U D N : ℕ) where
     has_here : has (get_or t.waiting i 0) U ≡ has (get_or t.waiting (place_in n s Q D N) 0) U
     has_here = ap (λ (k : ℕ). has (get_or t.waiting k 0) U) is_at
 
-    pub not_waiting : has (get_or t.waiting i 0) U ≡ false → Told.Refused 5 ≡ told_of n p s link t Q U D N
+    pub not_waiting : has (get_or t.waiting i 0) U ≡ false → Err Refusal.NoMessage ≡ told_of n p s link t Q U D N
     unfolding waits_in
     not_waiting e = refused 5 (fits fit ∙ five_next n s link t Q U D N good (sym has_here ∙ e)) refl
 
@@ -59,17 +63,17 @@ module _ (n p s link : ℕ) (t : Table) (Q U D N : ℕ) where
       is_told : c ≡ cost_in n s t Q D N
       is_told = costs ∙ ap (λ (k : ℕ). get_or t.cost k 0) is_at
 
-      pub too_dear : ceiling < c → Told.Refused 7 ≡ told_of n p s link t Q U D N
+      pub too_dear : ceiling < c → Err Refusal.Broken ≡ told_of n p s link t Q U D N
       unfolding waits_in ok_sender_in
       too_dear high = refused 7 (fits fit ∙ seven_last n s link t Q U D N good there (simp (lt-leb (cost_in n s t Q D N) ceiling (omega (arith, is_told)))))
           refl
 
-      pub no_link : c ≤ ceiling → link ≡ 0 → Told.Refused 7 ≡ told_of n p s link t Q U D N
+      pub no_link : c ≤ ceiling → link ≡ 0 → Err Refusal.Broken ≡ told_of n p s link t Q U D N
       unfolding waits_in ok_sender_in
       no_link low none = refused 7 (fits fit ∙ seven_last n s link t Q U D N good there
           (simp (le-leb (cost_in n s t Q D N) ceiling (omega (arith, is_told)), none))) refl
 
-      pub tells : c ≤ ceiling → (link ≡ 0 → ⊥) → Told.Row i c ≡ told_of n p s link t Q U D N
+      pub tells : c ≤ ceiling → (link ≡ 0 → ⊥) → Ok (record { place = i; cost = c }) ≡ told_of n p s link t Q U D N
       unfolding waits_in ok_sender_in
       tells low some =
           let linked : 0 < link = omega (arith, some) in
@@ -102,47 +106,25 @@ module _ (n p s link : ℕ) (t : Table) (Q U D N : ℕ) where
       let a = all_pass n s link t Q U D N r.1 in
       (r.0, a.0, leb-true (cost_in n s t Q D N) ceiling (both (leb (cost_in n s t Q D N) ceiling) (ltb 0 link) a.2).0)
 
-  pub passed : (i c : ℕ) → told_of n p s link t Q U D N ≡ Told.Row i c → Passed i c
-  passed i c e = go (eqb (refusal_in n p s link t Q U D N) 0) refl e
-    where
-      go : (b : Bool) → eqb (refusal_in n p s link t Q U D N) 0 ≡ b
-          → cond b (Told.Row (place_in n s Q D N) (cost_in n s t Q D N)) (Told.Refused (refusal_in n p s link t Q U D N)) ≡ Told.Row i c → Passed i c
-      go true q d =
-          let z = eqb-true (refusal_in n p s link t Q U D N) 0 q in
-          let a : place_in n s Q D N ≡ i = cc in
-          let f : cost_in n s t Q D N ≡ c = cc in
-          record {
-            nothing = z;
-            place_is = sym a;
-            cost_is = sym f;
-            sized = sizes n p s (length t.cost) (length t.way) (length t.waiting) (good z).0;
-            numbered = numbers n s Q U D N (good z).1;
-            priced = omega (arith, f, (good z).2);
-          }
-      go false q d = absurd (let z : ◌≡◌ {A = ℕ} 0 1 = cc in omega arith)
-
-  pub stopped : (k : ℕ) → told_of n p s link t Q U D N ≡ Told.Refused k → (eqb (refusal_in n p s link t Q U D N) 0 ≡ false)
-      × (refusal_in n p s link t Q U D N ≡ k)
-  stopped k e = go (eqb (refusal_in n p s link t Q U D N) 0) refl e
-    where
-      go : (b : Bool) → eqb (refusal_in n p s link t Q U D N) 0 ≡ b
-          → cond b (Told.Row (place_in n s Q D N) (cost_in n s t Q D N)) (Told.Refused (refusal_in n p s link t Q U D N)) ≡ Told.Refused k
-          → (eqb (refusal_in n p s link t Q U D N) 0 ≡ false) × (refusal_in n p s link t Q U D N ≡ k)
-      go true q d = absurd (let z : ◌≡◌ {A = ℕ} 0 1 = cc in omega arith)
-      go false q d = (q, (cc))
+  pub passed : (told : Told) → Ok told ≡ told_of n p s link t Q U D N → Passed told.place told.cost
+  passed told e =
+      let a = answered_ok (refusal_in n p s link t Q U D N) (record { place = place_in n s Q D N; cost = cost_in n s t Q D N }) told e in
+      let priced = ap (λ (x : Told). x.cost) a.1 in
+      record {
+        nothing = a.0;
+        place_is = ap (λ (x : Told). x.place) a.1;
+        cost_is = priced;
+        sized = sizes n p s (length t.cost) (length t.way) (length t.waiting) (good a.0).0;
+        numbered = numbers n s Q U D N (good a.0).1;
+        priced = omega (arith, priced, (good a.0).2);
+      }
 
 -- ---- where they all hold: the sums fit, the row is in the table, and so is the receiver's part
 pub record Lends (n s U i costs ways waits : ℕ) : Type 0 where
   pub place_bytes : Fits w64 (i * 4)
   pub inside : i < waits
   pub rows : Fits w64 (n * s)
-  pub from : Fits w64 (U * (n * s))
-  pub to : Fits w64 (U * (n * s) + n * s)
-  pub from_4 : Fits w64 (U * (n * s) * 4)
-  pub from_2 : Fits w64 (U * (n * s) * 2)
-  pub costs_end : U * (n * s) + n * s ≤ costs
-  pub ways_end : U * (n * s) + n * s ≤ ways
-  pub waits_end : (xs : List ℕ) (word : ℕ) → length xs ≡ waits → U * (n * s) + n * s ≤ length (set xs i word)
+  pub part : HasPart (n * s) U costs ways waits
 
 pub lends : (n p s link : ℕ) (t : Table) (Q U D N i c : ℕ) → Passed n p s link t Q U D N i c → Lends n s U i (length t.cost) (length t.way) (length t.waiting)
 lends n p s link t Q U D N i c x =
@@ -153,11 +135,10 @@ lends n p s link t Q U D N i c x =
       place_bytes = omega (arith, r.all);
       inside = omega (arith, z.waits_are);
       rows = omega (arith, r.each);
-      from = omega (arith, r.hears, r.all);
-      to = omega (arith, r.hears, r.all);
-      from_4 = omega (arith, r.hears, r.all);
-      from_2 = omega (arith, r.hears, r.all);
-      costs_end = omega (arith, r.hears, z.costs_are);
-      ways_end = omega (arith, r.hears, z.ways_are);
-      waits_end = λ xs word e. omega (arith, r.hears, z.waits_are, e, length-set xs i word);
+      part = record {
+        few = omega (arith, r.hears, r.all);
+        costs_end = omega (arith, r.hears, z.costs_are);
+        ways_end = omega (arith, r.hears, z.ways_are);
+        waits_end = omega (arith, r.hears, z.waits_are);
+      };
     }

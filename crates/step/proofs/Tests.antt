@@ -151,10 +151,7 @@ reads n p s costs ways waits Q U D N e g =
       low = omega arith;
     }
 
--- a part starts before it ends, and what its start and its length come to
-pub starts_before : (from k : ℕ) → from ≤ from + k
-starts_before from k = omega arith
-
+-- what a part's start and end come to
 pub length_of : (from k : ℕ) → from + k - from ≡ k
 length_of from k = omega arith
 

@@ -1,10 +1,10 @@
 -- One delivery to a gateway, for every input: the contract of `step`. The part "Deliver" of the specification, from the table's side.
-use Rattle.std.specs.Prelude.{ℕ, ◌*◌, ◌≡◌, Bool, ◌&&◌, length, leb, eqb}
+use Rattle.std.specs.Prelude.{ℕ, ◌*◌, ◌≡◌, Bool, ◌&&◌, length, leb, eqb, Result}
+use Rattle.refusal.specs.declared.Refusal.{Refusal}
 use Rattle.lists.specs.Lists.{unless}
 use Rattle.hear.specs.Hearing.{Gateway}
 use Rattle.table.specs.Table.{Table, delivered_in, offers_in}
 use Rattle.table.specs.Answers.{message_refusal_in, answer_by, table_by}
-use Rattle.table.specs.declared.Delivered.{Delivered}
 
 -- Where this fails refusal 3 is given, for every size or length with which the rows cannot be counted: n nodes, p protocols and s stacks
 -- within their bounds, and three slices of n x n x s rows.
@@ -24,13 +24,13 @@ module _ (n : ℕ) (g : Gateway) (back : ℕ) (t : Table) (Q U D N : ℕ) where
   refusal = refusal_in n g.p g.most back t Q U D N
 
   -- what `step` answers, and the table that it leaves
-  abbrev pub answer_of : Delivered
+  abbrev pub answer_of : Result ℕ Refusal
   answer_of = answer_by refusal (offers_in n g back t Q U D N)
 
   unfoldable pub table_after : Table
   table_after = table_by refusal (delivered_in n g back t Q U D N) t
 
   -- both
-  pub record Stepped (answer : Delivered) (after : Table) : Type 0 where
+  pub record Stepped (answer : Result ℕ Refusal) (after : Table) : Type 0 where
     pub answers : answer ≡ answer_of
     pub table : after ≡ table_after

@@ -2,20 +2,39 @@
 #![tactic(auto)]
 
 ghost use Rattle.std.specs.Prelude.{◌≡◌, ◌<◌, length, get_or};
-ghost use Rattle.hear.specs.Answers.{gateway_of};
+ghost use Rattle.network.specs.Handed.{network};
+ghost use Rattle.hear.specs.Handed.{gateway_seen, message_seen};
 ghost use Rattle.table.specs.Table.{table_of};
+ghost use Rattle.table.specs.Handed.{table_held};
 ghost use Rattle.table.specs.Answers.{ok_message_in};
 ghost use Rattle.step.specs.Step.{ok_rows, Stepped};
-ghost use Rattle.step.specs.Steps.{told_of, as_delivered};
+ghost use Rattle.step.specs.Steps.{told_of, HasPart, Received};
+ghost use Rattle.step.specs.InNetwork.{gateway_at};
 
-use hear::Heard;
-use table::Delivered;
+use hear::Gateway;
+use network::Network;
+use refusal::Refusal;
+use table::{Message, TableMut};
 
-// What the message tells of: where the sender's row stands and what it costs; or the refusal's number.
+// What the message tells of: where the sender's row stands and what it costs.
 #[derive(Clone, Copy)]
-enum Told {
-    Row(usize, u32),
-    Refused(u32),
+struct Told {
+    place: usize,
+    cost: u32,
+}
+
+// A node as the gateway that hears, with `most` stacks: its neighbours, and its grids of the three kinds.
+pub fn gateway_at(net: &Network, most: usize, node: usize) -> Gateway
+    ensures { result ≡ gateway_at (network net.now) most node }
+{
+    Gateway {
+        p: net.p,
+        most,
+        neighbours: net.neighbours(node),
+        convert: gateways::grid(net, node, 0),
+        wrap: gateways::grid(net, node, 1),
+        unwrap: gateways::grid(net, node, 2),
+    }
 }
 
 // Whether n, p and `stacks` are in range and each slice has n x n x `stacks` rows.
@@ -30,17 +49,14 @@ fn good_sizes(n: usize, p: usize, stacks: usize, costs: usize, ways: usize, wait
 }
 
 // Whether the message's numbers are in range.
-fn good_numbers(
-    n: usize,
-    stacks: usize,
-    sender: usize,
-    receiver: usize,
-    destination: usize,
-    number: usize,
-) -> bool
-    ensures { result ≡ ok_message_in n stacks sender receiver destination number }
+fn good_numbers(n: usize, stacks: usize, message: Message) -> bool
+    ensures { result ≡ ok_message_in n stacks message.sender message.receiver message.destination message.number }
 {
-    (sender < n) & (receiver < n) & (destination < n) & (1 <= number) & (number <= stacks)
+    (message.sender < n)
+        & (message.receiver < n)
+        & (message.destination < n)
+        & (1 <= message.number)
+        & (message.number <= stacks)
 }
 
 // A row's cost. It is lent the rows of one gateway, the sender, and no others.
@@ -56,109 +72,102 @@ fn read_row(
     n: usize,
     p: usize,
     stacks: usize,
-    cost: &[u32],
-    way: &[u16],
-    waiting: &[u32],
     link: u16,
-    sender: usize,
-    receiver: usize,
-    destination: usize,
-    number: usize,
-) -> Told
-    ensures { result ≡ told_of n p stacks link (table_of cost.now way.now waiting.now) sender receiver destination number }
+    table: &TableMut,
+    message: Message,
+) -> Result<Told, Refusal>
+    ensures { result ≡ told_of n p stacks link (table_held table.now) message.sender message.receiver message.destination message.number }
 {
-    if !good_sizes(n, p, stacks, cost.len(), way.len(), waiting.len()) {
-        return Told::Refused(3);
-    }
-    if !good_numbers(n, stacks, sender, receiver, destination, number) {
-        return Told::Refused(4);
-    }
-    let rows_each = n * stacks;
-    let start = sender * rows_each;
-    let end = start + rows_each;
-    let at = destination * stacks + (number - 1);
-    let place = start + at;
-    if !bits::has(waiting[place], receiver) {
-        return Told::Refused(5);
-    }
-    let told = read_cost(&cost[start..end], at);
-    if 2147303427 < told { // the ceiling
-        return Told::Refused(7);
-    }
-    if link == 0 {
-        return Told::Refused(7);
-    }
-    Told::Row(place, told)
-}
-
-// The receiver's answer is the delivery's. (`hear` refuses nothing here: `read_row` has made its tests: proofs/Hearing.antt.)
-fn as_delivered(heard: Heard) -> Delivered
-    ensures { result ≡ as_delivered heard }
-{
-    match heard {
-        Heard::Rows(taken) => Delivered::Rows(taken),
-        Heard::Refused(refusal) => Delivered::Refused(refusal),
-    }
-}
-
-// One waiting message is delivered to a receiver with these neighbours and grids, over a link that costs `link` back: the sender's bit is
-// cleared, and the receiver's rows, lent only after the sender's cost is read, take the offers that are cheaper.
-pub fn step(
-    n: usize,
-    p: usize,
-    stacks: usize,
-    cost: &mut [u32],
-    way: &mut [u16],
-    waiting: &mut [u32],
-    neighbours: u32,
-    convert: [[u16; 8]; 8],
-    wrap: [[u16; 8]; 8],
-    unwrap: [[u16; 8]; 8],
-    link: u16,
-    sender: usize,
-    receiver: usize,
-    destination: usize,
-    number: usize,
-) -> Delivered
-    ensures { Stepped n (gateway_of p stacks neighbours convert wrap unwrap) link (table_of cost.old way.old waiting.old) sender receiver destination number
-        result (table_of cost.new way.new waiting.new) }
-{
-    match read_row(
+    if !good_sizes(
         n,
         p,
         stacks,
-        &cost[..],
-        &way[..],
-        &waiting[..],
-        link,
+        table.cost.len(),
+        table.way.len(),
+        table.waiting.len(),
+    ) {
+        return Err(Refusal::Table);
+    }
+    if !good_numbers(n, stacks, message) {
+        return Err(Refusal::Range);
+    }
+    let rows_each = n * stacks;
+    let start = message.sender * rows_each;
+    let end = start + rows_each;
+    let at = message.destination * stacks + (message.number - 1);
+    let place = start + at;
+    if !bits::has(table.waiting[place], message.receiver) {
+        return Err(Refusal::NoMessage);
+    }
+    let cost = read_cost(&table.cost[start..end], at);
+    if 2147303427 < cost { // the ceiling
+        return Err(Refusal::Broken);
+    }
+    if link == 0 {
+        return Err(Refusal::Broken);
+    }
+    Ok(Told { place, cost })
+}
+
+// The receiver hears the message: it is lent its own rows, `rows_each` of them, and no others.
+fn receive(
+    cost: &mut [u32],
+    way: &mut [u16],
+    waiting: &mut [u32],
+    rows_each: usize,
+    receiver: usize,
+    gateway: Gateway,
+    message: hear::Message,
+) -> Result<usize, Refusal>
+    requires { HasPart rows_each receiver (length cost.old) (length way.old) (length waiting.old) }
+    ensures { Received rows_each receiver (gateway_seen gateway) (message_seen message) (table_of cost.old way.old waiting.old)
+        result (table_of cost.new way.new waiting.new) }
+{
+    let from = receiver * rows_each;
+    let to = from + rows_each;
+    hear::hear(
+        gateway,
+        message,
+        &mut cost[from..to],
+        &mut way[from..to],
+        &mut waiting[from..to],
+    )
+}
+
+// One waiting message is delivered to this gateway, over a link that costs `link` back: the sender's bit is cleared, and the receiver's
+// rows, lent only after the sender's cost is read, take the offers that are cheaper.
+pub fn step(
+    n: usize,
+    gateway: Gateway,
+    link: u16,
+    table: &mut TableMut,
+    message: Message,
+) -> Result<usize, Refusal>
+    ensures { Stepped n (gateway_seen gateway) link (table_held table.old) message.sender message.receiver message.destination message.number
+        result (table_held table.new) }
+{
+    let told = read_row(n, gateway.p, gateway.most, link, table, message)?;
+    let Message {
         sender,
         receiver,
         destination,
         number,
-    ) {
-        Told::Row(place, told) => {
-            let word = waiting[place];
-            waiting[place] = bits::without(word, receiver);
-            let rows_each = n * stacks;
-            let from = receiver * rows_each;
-            let to = from + rows_each;
-            as_delivered(hear::hear(
-                p,
-                stacks,
-                neighbours,
-                convert,
-                wrap,
-                unwrap,
-                sender,
-                destination,
-                number,
-                told,
-                link,
-                &mut cost[from..to],
-                &mut way[from..to],
-                &mut waiting[from..to],
-            ))
-        }
-        Told::Refused(refusal) => Delivered::Refused(refusal),
-    }
+    } = message;
+    table.waiting[told.place] = bits::without(table.waiting[told.place], receiver);
+    let heard = hear::Message {
+        sender,
+        destination,
+        number,
+        cost: told.cost,
+        link,
+    };
+    receive(
+        table.cost,
+        table.way,
+        table.waiting,
+        n * gateway.most,
+        receiver,
+        gateway,
+        heard,
+    )
 }

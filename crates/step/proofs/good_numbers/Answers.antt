@@ -3,4 +3,4 @@ use Rattle.step.proofs.Tests.{numbers_same}
 use Rattle.step.proofs.good_numbers.Goals as goal
 
 pub returns : goal.returns
-returns c = let a = c.args in numbers_same a.n a.stacks a.sender a.receiver a.destination a.number
+returns c = let a = c.args in let m = a.message in numbers_same a.n a.stacks m.sender m.receiver m.destination m.number

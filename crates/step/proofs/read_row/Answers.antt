@@ -5,46 +5,49 @@ use mathlib.Core.Path.{◌≡◌, refl, sym, ◌∙◌}
 use mathlib.Core.Bool.{true}
 use lib.ListN.{length, get_or}
 use Rattle.bits.specs.Bits.{has}
-use Rattle.table.specs.Table.{table_of}
+use Rattle.table.specs.Handed.{table_held}
 use Rattle.table.specs.Answers.{ok_message_in}
 use Rattle.step.specs.Step.{ok_rows}
-use Rattle.step.proofs.Tests.{Reads, reads, starts_before, in_part, in_whole}
+use Rattle.step.proofs.Tests.{Reads, reads, in_part, in_whole}
 use Rattle.step.proofs.Tells.{bad_sizes, bad_numbers, not_waiting, too_dear, no_link, tells}
 use Rattle.step.proofs.read_row.Goals as goal
-use Rattle.step.proofs.read_row.Goals.{After-read_cost-told, Else-not-good_numbers, Else-not-good_sizes, Else-not-has}
+use Rattle.step.proofs.read_row.Goals.{After-read_cost-cost, Else-not-good_numbers, Else-not-good_sizes, Else-not-has}
 
-fit : (c : Else-not-good_sizes) → (let a = c.args in ok_rows a.n a.p a.stacks (length a.cost.now) (length a.way.now) (length a.waiting.now) ≡ true)
+fit : (c : Else-not-good_sizes)
+    → (let a = c.args in let t = table_held a.table.now in ok_rows a.n a.p a.stacks (length t.cost) (length t.way) (length t.waiting) ≡ true)
 fit c = sym c.good_sizes.ensures ∙ c.if-not-good_sizes.false
 
-good : (c : Else-not-good_numbers) → (let a = c.args in ok_message_in a.n a.stacks a.sender a.receiver a.destination a.number ≡ true)
+good : (c : Else-not-good_numbers)
+    → (let a = c.args in let m = a.message in ok_message_in a.n a.stacks m.sender m.receiver m.destination m.number ≡ true)
 good c = sym c.good_numbers.ensures ∙ c.if-not-good_numbers.false
 
-fits-there : (c : Else-not-good_numbers) → let a = c.args in Reads a.n a.stacks a.sender a.destination a.number (length a.cost.now) (length a.waiting.now)
+fits-there : (c : Else-not-good_numbers) → let a = c.args in let m = a.message in let t = table_held a.table.now in
+    Reads a.n a.stacks m.sender m.destination m.number (length t.cost) (length t.waiting)
 fits-there c =
-    let a = c.args in
-    reads a.n a.p a.stacks (length a.cost.now) (length a.way.now) (length a.waiting.now) a.sender a.receiver a.destination a.number
-    (sym c.good_sizes.ensures ∙ c.if-not-good_sizes.false) (sym c.good_numbers.ensures ∙ c.if-not-good_numbers.false)
+    let a = c.args in let m = a.message in let t = table_held a.table.now in
+    reads a.n a.p a.stacks (length t.cost) (length t.way) (length t.waiting) m.sender m.receiver m.destination m.number
+    (sym c.good_sizes.ensures ∙ c.if-not-good_sizes.false) (good c)
 
 -- what the sender's part says of the row
-told_is : (c : After-read_cost-told) → c.read_cost-told.result ≡ get_or c.args.cost.now (let a = c.args in a.sender * (a.n * a.stacks) + (let a = c.args in
-    a.destination * a.stacks + (a.number - 1))) 0
+told_is : (c : After-read_cost-cost) → let a = c.args in let m = a.message in
+    c.read_cost-cost.result ≡ get_or a.table.now.cost.now (m.sender * (a.n * a.stacks) + (m.destination * a.stacks + (m.number - 1))) 0
 told_is c =
-    let a = c.args in
+    let a = c.args in let m = a.message in let t = table_held a.table.now in
     let rows = a.n * a.stacks in
-    c.read_cost-told.ensures ∙ in_whole a.cost.now (a.sender * rows) (a.sender * rows + rows - a.sender * rows) (a.destination * a.stacks + (a.number - 1))
-    (reads a.n a.p a.stacks (length a.cost.now) (length a.way.now) (length a.waiting.now) a.sender a.receiver a.destination a.number
+    c.read_cost-cost.ensures ∙ in_whole t.cost (m.sender * rows) (m.sender * rows + rows - m.sender * rows) (m.destination * a.stacks + (m.number - 1))
+    (reads a.n a.p a.stacks (length t.cost) (length t.way) (length t.waiting) m.sender m.receiver m.destination m.number
     (sym c.good_sizes.ensures ∙ c.if-not-good_sizes.false) (sym c.good_numbers.ensures ∙ c.if-not-good_numbers.false)).low
 
 pub returns-then-not-good_sizes : goal.returns-then-not-good_sizes
 returns-then-not-good_sizes c =
-    let a = c.args in
-    bad_sizes a.n a.p a.stacks a.link (table_of a.cost.now a.way.now a.waiting.now) a.sender a.receiver a.destination a.number (sym c.good_sizes.ensures
-    ∙ c.if-not-good_sizes.true)
+    let a = c.args in let m = a.message in
+    bad_sizes a.n a.p a.stacks a.link (table_held a.table.now) m.sender m.receiver m.destination m.number
+    (sym c.good_sizes.ensures ∙ c.if-not-good_sizes.true)
 
 pub returns-then-not-good_numbers : goal.returns-then-not-good_numbers
 returns-then-not-good_numbers c =
-    let a = c.args in
-    bad_numbers a.n a.p a.stacks a.link (table_of a.cost.now a.way.now a.waiting.now) a.sender a.receiver a.destination a.number
+    let a = c.args in let m = a.message in
+    bad_numbers a.n a.p a.stacks a.link (table_held a.table.now) m.sender m.receiver m.destination m.number
     (fit (goal.at.returns-then-not-good_numbers c).Else-not-good_sizes) (sym c.good_numbers.ensures ∙ c.if-not-good_numbers.true)
 
 pub overflow_mul-rows_each : goal.overflow_mul-rows_each
@@ -68,59 +71,53 @@ overflow_add-at c = (fits-there (goal.at.overflow_add-at c).Else-not-good_number
 pub overflow_add-place : goal.overflow_add-place
 overflow_add-place c = (fits-there (goal.at.overflow_add-place c).Else-not-good_numbers).place
 
-pub offset_bounds-waiting-place : goal.offset_bounds-waiting-place
-offset_bounds-waiting-place c = (fits-there (goal.at.offset_bounds-waiting-place c).Else-not-good_numbers).place_bytes
+pub offset_bounds-table-place : goal.offset_bounds-table-place
+offset_bounds-table-place c = (fits-there (goal.at.offset_bounds-table-place c).Else-not-good_numbers).place_bytes
 
-pub bounds-waiting-place : goal.bounds-waiting-place
-bounds-waiting-place c = (fits-there (goal.at.bounds-waiting-place c).Else-not-good_numbers).inside
+pub bounds-table-place : goal.bounds-table-place
+bounds-table-place c = (fits-there (goal.at.bounds-table-place c).Else-not-good_numbers).inside
 
 pub returns-then-not-has : goal.returns-then-not-has
 returns-then-not-has c =
-    let a = c.args in
-    not_waiting a.n a.p a.stacks a.link (table_of a.cost.now a.way.now a.waiting.now) a.sender a.receiver a.destination a.number
+    let a = c.args in let m = a.message in
+    not_waiting a.n a.p a.stacks a.link (table_held a.table.now) m.sender m.receiver m.destination m.number
     (fit (goal.at.returns-then-not-has c).Else-not-good_sizes) (good (goal.at.returns-then-not-has c).Else-not-good_numbers)
-    (a.sender * (a.n * a.stacks) + (a.destination * a.stacks + (a.number - 1))) refl (sym c.has.ensures ∙ c.if-not-has.true)
+    (m.sender * (a.n * a.stacks) + (m.destination * a.stacks + (m.number - 1))) refl (sym c.has.ensures ∙ c.if-not-has.true)
 
-pub offset_bounds-cost-start : goal.offset_bounds-cost-start
-offset_bounds-cost-start c = (fits-there (goal.at.offset_bounds-cost-start c).Else-not-good_numbers).start_bytes
-
-pub slice_bounds-read_cost-count : goal.slice_bounds-read_cost-count
-slice_bounds-read_cost-count c = starts_before _ _
-
-pub slice_bounds-read_cost-start : goal.slice_bounds-read_cost-start
-slice_bounds-read_cost-start c = starts_before _ _
+pub offset_bounds-table-start : goal.offset_bounds-table-start
+offset_bounds-table-start c = (fits-there (goal.at.offset_bounds-table-start c).Else-not-good_numbers).start_bytes
 
 pub slice_bounds-read_cost-end : goal.slice_bounds-read_cost-end
 slice_bounds-read_cost-end c = (fits-there (goal.at.slice_bounds-read_cost-end c).Else-not-good_numbers).ends
 
-pub read_cost-told-requires : goal.read_cost-told-requires
-read_cost-told-requires c = let f = fits-there (goal.at.read_cost-told-requires c).Else-not-good_numbers in in_part _ _ _ _ f.ends f.low
+pub read_cost-cost-requires : goal.read_cost-cost-requires
+read_cost-cost-requires c = let f = fits-there (goal.at.read_cost-cost-requires c).Else-not-good_numbers in in_part _ _ _ _ f.ends f.low
 
 -- the bit is set, of a place that lies behind the tests
-waits : (c : Else-not-has) → has (get_or c.args.waiting.now (let a = c.args in a.sender * (a.n * a.stacks) + (let a = c.args in a.destination * a.stacks
-    + (a.number - 1))) 0) c.args.receiver ≡ true
+waits : (c : Else-not-has) → let a = c.args in let m = a.message in
+    has (get_or a.table.now.waiting.now (m.sender * (a.n * a.stacks) + (m.destination * a.stacks + (m.number - 1))) 0) m.receiver ≡ true
 waits c = sym c.has.ensures ∙ c.if-not-has.false
 
-pub returns-then-told-gt2147303427 : goal.returns-then-told-gt2147303427
-returns-then-told-gt2147303427 c =
-    let a = c.args in
-    too_dear a.n a.p a.stacks a.link (table_of a.cost.now a.way.now a.waiting.now) a.sender a.receiver a.destination a.number
-    (fit (goal.at.returns-then-told-gt2147303427 c).Else-not-good_sizes) (good (goal.at.returns-then-told-gt2147303427 c).Else-not-good_numbers)
-    (a.sender * (a.n * a.stacks) + (a.destination * a.stacks + (a.number - 1))) refl (waits (goal.at.returns-then-told-gt2147303427 c).Else-not-has)
-    c.read_cost-told.result (told_is (goal.at.returns-then-told-gt2147303427 c).After-read_cost-told) (omega arith)
+pub returns-then-cost-gt2147303427 : goal.returns-then-cost-gt2147303427
+returns-then-cost-gt2147303427 c =
+    let a = c.args in let m = a.message in
+    too_dear a.n a.p a.stacks a.link (table_held a.table.now) m.sender m.receiver m.destination m.number
+    (fit (goal.at.returns-then-cost-gt2147303427 c).Else-not-good_sizes) (good (goal.at.returns-then-cost-gt2147303427 c).Else-not-good_numbers)
+    (m.sender * (a.n * a.stacks) + (m.destination * a.stacks + (m.number - 1))) refl (waits (goal.at.returns-then-cost-gt2147303427 c).Else-not-has)
+    c.read_cost-cost.result (told_is (goal.at.returns-then-cost-gt2147303427 c).After-read_cost-cost) (omega arith)
 
 pub returns-then-link-eq0 : goal.returns-then-link-eq0
 returns-then-link-eq0 c =
-    let a = c.args in
-    no_link a.n a.p a.stacks a.link (table_of a.cost.now a.way.now a.waiting.now) a.sender a.receiver a.destination a.number
+    let a = c.args in let m = a.message in
+    no_link a.n a.p a.stacks a.link (table_held a.table.now) m.sender m.receiver m.destination m.number
     (fit (goal.at.returns-then-link-eq0 c).Else-not-good_sizes) (good (goal.at.returns-then-link-eq0 c).Else-not-good_numbers)
-    (a.sender * (a.n * a.stacks) + (a.destination * a.stacks + (a.number - 1))) refl (waits (goal.at.returns-then-link-eq0 c).Else-not-has)
-    c.read_cost-told.result (told_is (goal.at.returns-then-link-eq0 c).After-read_cost-told) (omega arith) c.if-link-eq0.true
+    (m.sender * (a.n * a.stacks) + (m.destination * a.stacks + (m.number - 1))) refl (waits (goal.at.returns-then-link-eq0 c).Else-not-has)
+    c.read_cost-cost.result (told_is (goal.at.returns-then-link-eq0 c).After-read_cost-cost) (omega arith) c.if-link-eq0.true
 
 pub returns : goal.returns
 returns c =
-    let a = c.args in
-    tells a.n a.p a.stacks a.link (table_of a.cost.now a.way.now a.waiting.now) a.sender a.receiver a.destination a.number
+    let a = c.args in let m = a.message in
+    tells a.n a.p a.stacks a.link (table_held a.table.now) m.sender m.receiver m.destination m.number
     (fit (goal.at.returns c).Else-not-good_sizes) (good (goal.at.returns c).Else-not-good_numbers)
-    (a.sender * (a.n * a.stacks) + (a.destination * a.stacks + (a.number - 1))) refl (waits (goal.at.returns c).Else-not-has) c.read_cost-told.result
-    (told_is (goal.at.returns c).After-read_cost-told) (omega arith) c.if-link-eq0.false
+    (m.sender * (a.n * a.stacks) + (m.destination * a.stacks + (m.number - 1))) refl (waits (goal.at.returns c).Else-not-has) c.read_cost-cost.result
+    (told_is (goal.at.returns c).After-read_cost-cost) (omega arith) c.if-link-eq0.false

@@ -1,103 +1,61 @@
 -- `step::step` meets its contract: a law of proofs/Hearing.antt for each return.
-use Prim.Native.Nat.{◌+◌, ◌-◌, ◌*◌}
-use mathlib.Core.Path.{refl, sym}
-use lib.ListN.{length}
-use Rattle.hear.specs.Answers.{gateway_of}
-use Rattle.hear.specs.Answers as hearing
-use Rattle.table.specs.Table.{table_of}
-use Rattle.step.proofs.Tests.{starts_before, length_of}
+use mathlib.Core.Path.{◌≡◌}
+use lib.ListN.{length, length-set}
+use Rattle.std.proofs.Common.{rules, Err}
+use Rattle.hear.specs.Handed.{gateway_seen}
+use Rattle.table.specs.Handed.{table_held}
 use Rattle.step.proofs.Tells.{Passed, passed, Lends, lends}
 use Rattle.step.proofs.Hearing.{refuses, delivers}
 use Rattle.step.proofs.step.Goals as goal
-use Rattle.step.proofs.step.Goals.{In-Row}
+use Rattle.step.proofs.step.Goals.{In_ok-told}
+
+pub returns-in_err-told : goal.returns-in_err-told
+returns-in_err-told c =
+    let a = c.args in
+    let m = a.message in
+    let same : c.from_residual.result ≡ Err c.in_err-told.field-0.0 = search rules in
+    rw same (refuses a.n (gateway_seen a.gateway) a.link (table_held a.table.now) m.sender m.receiver m.destination m.number c.in_err-told.field-0.0
+    c.in_err-told.ensures)
 
 -- where the tests hold: what they said, and that the sums fit
-pass : (c : In-Row) → let a = c.args in
-    Passed a.n a.p a.stacks a.link (let a = c.args in table_of a.cost.now a.way.now a.waiting.now) a.sender a.receiver a.destination a.number c.in-Row.place
-    c.in-Row.told
+pass : (c : In_ok-told) → let a = c.args in let m = a.message in
+    Passed a.n a.gateway.p a.gateway.most a.link (table_held a.table.now) m.sender m.receiver m.destination m.number c.in_ok-told.told.place
+    c.in_ok-told.told.cost
 pass c =
     let a = c.args in
-    passed a.n a.p a.stacks a.link (let a = c.args in table_of a.cost.now a.way.now a.waiting.now) a.sender a.receiver a.destination a.number c.in-Row.place
-    c.in-Row.told (sym c.in-Row.ensures)
+    let m = a.message in
+    passed a.n a.gateway.p a.gateway.most a.link (table_held a.table.now) m.sender m.receiver m.destination m.number c.in_ok-told.told c.in_ok-told.ensures
 
-pub returns-in-Row : goal.returns-in-Row
-returns-in-Row c =
-    let a = c.args in
-    let h = c.hear in
-    let from = a.receiver * (a.n * a.stacks) in
-    delivers a.n (gateway_of a.p a.stacks a.neighbours a.convert a.wrap a.unwrap) a.link (table_of a.cost.now a.way.now a.waiting.now) a.sender a.receiver
-    a.destination a.number c.in-Row.place c.in-Row.told (pass (goal.at.returns-in-Row c).In-Row)
-    from (from + a.n * a.stacks - from) c.without.result refl (length_of from (a.n * a.stacks)) c.without.ensures h.result
-    (hearing.rows_of h.new.costs h.new.ways h.new.waiting) h.ensures
-    c.as_delivered.result c.as_delivered.ensures
-
-lent : (c : In-Row) → let a = c.args in
-    Lends a.n a.stacks a.receiver c.in-Row.place (length a.cost.now) (length a.way.now) (length a.waiting.now)
+lent : (c : In_ok-told) → let a = c.args in let t = a.table.now in
+    Lends a.n a.gateway.most a.message.receiver c.in_ok-told.told.place (length t.cost.now) (length t.way.now) (length t.waiting.now)
 lent c =
     let a = c.args in
-    lends a.n a.p a.stacks a.link (let a = c.args in table_of a.cost.now a.way.now a.waiting.now) a.sender a.receiver a.destination a.number c.in-Row.place
-    c.in-Row.told (let a = c.args in passed a.n a.p a.stacks a.link (let a = c.args in table_of a.cost.now a.way.now a.waiting.now) a.sender a.receiver
-    a.destination a.number c.in-Row.place c.in-Row.told (sym c.in-Row.ensures))
+    let m = a.message in
+    lends a.n a.gateway.p a.gateway.most a.link (table_held a.table.now) m.sender m.receiver m.destination m.number c.in_ok-told.told.place
+    c.in_ok-told.told.cost (pass c)
 
-pub offset_bounds-waiting-place : goal.offset_bounds-waiting-place
-offset_bounds-waiting-place c = (lent (goal.at.offset_bounds-waiting-place c).In-Row).place_bytes
+pub offset_bounds-table-told : goal.offset_bounds-table-told
+offset_bounds-table-told c = (lent (goal.at.offset_bounds-table-told c).In_ok-told).place_bytes
 
-pub bounds-waiting-place : goal.bounds-waiting-place
-bounds-waiting-place c = (lent (goal.at.bounds-waiting-place c).In-Row).inside
+pub bounds-table-told : goal.bounds-table-told
+bounds-table-told c = (lent (goal.at.bounds-table-told c).In_ok-told).inside
 
-pub offset_bounds-waiting-place-in-Row : goal.offset_bounds-waiting-place-in-Row
-offset_bounds-waiting-place-in-Row c = (lent (goal.at.offset_bounds-waiting-place-in-Row c).In-Row).place_bytes
+pub offset_bounds-table-told-2 : goal.offset_bounds-table-told-2
+offset_bounds-table-told-2 c = (lent (goal.at.offset_bounds-table-told-2 c).In_ok-told).place_bytes
 
-pub bounds-waiting-place-in-Row : goal.bounds-waiting-place-in-Row
-bounds-waiting-place-in-Row c = (lent (goal.at.bounds-waiting-place-in-Row c).In-Row).inside
+pub bounds-table-told-2 : goal.bounds-table-told-2
+bounds-table-told-2 c = (lent (goal.at.bounds-table-told-2 c).In_ok-told).inside
 
-pub overflow_mul-rows_each : goal.overflow_mul-rows_each
-overflow_mul-rows_each c = (lent (goal.at.overflow_mul-rows_each c).In-Row).rows
+pub overflow_mul-n : goal.overflow_mul-n
+overflow_mul-n c = (lent (goal.at.overflow_mul-n c).In_ok-told).rows
 
-pub overflow_mul-from : goal.overflow_mul-from
-overflow_mul-from c = (lent (goal.at.overflow_mul-from c).In-Row).from
+pub receive-requires : goal.receive-requires
+receive-requires c = rw length-set (lent (goal.at.receive-requires c).In_ok-told).part
 
-pub overflow_add-to : goal.overflow_add-to
-overflow_add-to c = (lent (goal.at.overflow_add-to c).In-Row).to
-
-pub offset_bounds-cost-from : goal.offset_bounds-cost-from
-offset_bounds-cost-from c = (lent (goal.at.offset_bounds-cost-from c).In-Row).from_4
-
-pub slice_bounds-hear-count : goal.slice_bounds-hear-count
-slice_bounds-hear-count c = starts_before _ _
-
-pub slice_bounds-hear-start : goal.slice_bounds-hear-start
-slice_bounds-hear-start c = starts_before _ _
-
-pub slice_bounds-hear-end : goal.slice_bounds-hear-end
-slice_bounds-hear-end c = (lent (goal.at.slice_bounds-hear-end c).In-Row).costs_end
-
-pub offset_bounds-way-from : goal.offset_bounds-way-from
-offset_bounds-way-from c = (lent (goal.at.offset_bounds-way-from c).In-Row).from_2
-
-pub slice_bounds-hear-count-in-Row : goal.slice_bounds-hear-count-in-Row
-slice_bounds-hear-count-in-Row c = starts_before _ _
-
-pub slice_bounds-hear-start-in-Row : goal.slice_bounds-hear-start-in-Row
-slice_bounds-hear-start-in-Row c = starts_before _ _
-
-pub slice_bounds-hear-end-in-Row : goal.slice_bounds-hear-end-in-Row
-slice_bounds-hear-end-in-Row c = (lent (goal.at.slice_bounds-hear-end-in-Row c).In-Row).ways_end
-
-pub offset_bounds-waiting-from : goal.offset_bounds-waiting-from
-offset_bounds-waiting-from c = (lent (goal.at.offset_bounds-waiting-from c).In-Row).from_4
-
-pub slice_bounds-hear-count-in-Row-2 : goal.slice_bounds-hear-count-in-Row-2
-slice_bounds-hear-count-in-Row-2 c = starts_before _ _
-
-pub slice_bounds-hear-start-in-Row-2 : goal.slice_bounds-hear-start-in-Row-2
-slice_bounds-hear-start-in-Row-2 c = starts_before _ _
-
-pub slice_bounds-hear-end-in-Row-2 : goal.slice_bounds-hear-end-in-Row-2
-slice_bounds-hear-end-in-Row-2 c = (lent (goal.at.slice_bounds-hear-end-in-Row-2 c).In-Row).waits_end c.args.waiting.now c.without.result refl
-
-pub returns-in-Refused : goal.returns-in-Refused
-returns-in-Refused c =
+pub returns : goal.returns
+returns c =
     let a = c.args in
-    refuses a.n (gateway_of a.p a.stacks a.neighbours a.convert a.wrap a.unwrap) a.link (table_of a.cost.now a.way.now a.waiting.now) a.sender a.receiver
-    a.destination a.number c.in-Refused.refusal (sym c.in-Refused.ensures)
+    let m = a.message in
+    let x = c.receive in
+    delivers a.n (gateway_seen a.gateway) a.link (table_held a.table.now) m.sender m.receiver m.destination m.number c.in_ok-told.told.place
+    c.in_ok-told.told.cost (pass (goal.at.returns c).In_ok-told) c.without.result x.result _ c.without.ensures x.ensures
