@@ -4,8 +4,7 @@ use mathlib.Core.Path.{◌≡◌, refl, sym, ◌∙◌}
 use mathlib.Core.Bool.{true}
 use borrow.Author.Tests.{ltb-true, lt-ltb}
 use Rattle.stacks.specs.Stacks.{ok_size}
-use Rattle.functions.specs.Answers.{applied_of}
-use Rattle.functions.specs.declared.After.{After}
+use Rattle.functions.specs.Answers.{applied_of, made}
 use Rattle.functions.proofs.Laws.{moved_applied, leads}
 use Rattle.functions.proofs.Tests.{function}
 use Rattle.network.specs.Network.{Network}
@@ -23,7 +22,7 @@ leader_about net m U N = refl
 -- f, which U can, makes the stack M of the stack N
 pub record By (net : Network) (U N M f : ℕ) : Type 0 where
   pub has_it : can net U f ≡ true
-  pub makes : applied_of net.p net.h f N ≡ After.Number M
+  pub makes : applied_of net.p net.h f N ≡ made M
 
 module _ (net : Network) (size : ok_size net.p net.h ≡ true) (U N M : ℕ) where
   pub leader_by : leader (gateway net U) (about M) N < 192 → By net U N M (leader (gateway net U) (about M) N)

@@ -8,8 +8,7 @@ use lib.Dec.{ltb, eqb}
 use borrow.Author.Tests.{ltb-true, lt-ltb, eq-eqb}
 use Rattle.lists.proofs.Tests.{both}
 use Rattle.relax.specs.Graph.{wins, Takes}
-use Rattle.functions.specs.Answers.{applied_of, number_after}
-use Rattle.functions.specs.declared.After.{After}
+use Rattle.functions.specs.Answers.{applied_of, number_after, made}
 use Rattle.network.specs.Network.{Network, refusal_of}
 use Rattle.gateways.specs.Gateways.{price, weight}
 use Rattle.gateways.proofs.Laws.{weight_some}
@@ -63,11 +62,11 @@ module _ (net : Network) (t : Table) (Q U D N : ℕ) (go : Goes net t Q U D N) w
 
     -- the function makes of u's stack the one that was heard of
     leads_here : refusal_of net ≡ 0 → Hops net u heard_of → applied_of net.p net.h (leader_of net t Q U D N (vertex_number net u)) (vertex_number net u)
-        ≡ After.Number N
+        ≡ made N
     leads_here right hop =
         ap (λ (f : ℕ). applied_of net.p net.h f (vertex_number net u)) (sym function_leader)
         ∙ (hop_by net right u heard_of hop).makes
-        ∙ ap After.Number (vertex_number_lem net Q N go.stack)
+        ∙ ap made (vertex_number_lem net Q N go.stack)
 
     -- so the way of a row that takes its offer names the vertex that was heard of
     pub way_leads : refusal_of net ≡ 0 → Hops net u heard_of → leads_to net (256 * Q + leader_of net t Q U D N (vertex_number net u)) (vertex_number net u)
@@ -79,8 +78,7 @@ module _ (net : Network) (t : Table) (Q U D N : ℕ) (go : Goes net t Q U D N) w
         let node : (256 * Q + f) / 256 ≡ Q = omega arith in
         let function : (256 * Q + f) % 256 ≡ f = omega arith in
         ap₂ (λ (W g : ℕ). vertex_made net W (number_after (applied_of net.p net.h g (vertex_number net u)))) node function
-        ∙ ap (λ (a : After). vertex_made net Q (number_after a)) (leads_here right hop)
-        ∙ simp (lt-ltb 0 N go.stack.some)
+        ∙ simp (leads_here right hop, lt-ltb 0 N go.stack.some)
 
     -- a vertex of U that takes the offer is a row that does
     pub takes_took : Takes (graph_of net D) (state_of net D t) heard_of U u → took net t Q U D N D (vertex_number net u) ≡ true

@@ -8,8 +8,7 @@ use borrow.Author.Tests.{ltb-true, lt-ltb}
 use Rattle.lists.proofs.Tests.{bool_cases, both}
 use Rattle.relax.specs.Graph.{Lawful}
 use Rattle.stacks.proofs.Tests.{within}
-use Rattle.functions.specs.Answers.{applied_of}
-use Rattle.functions.specs.declared.After.{After}
+use Rattle.functions.specs.Answers.{applied_of, made}
 use Rattle.functions.proofs.Laws.{leads}
 use Rattle.network.specs.Network.{Network, Numbers16, present, refusal_of}
 use Rattle.network.proofs.Laws.{valid, present_nodes}
@@ -90,7 +89,7 @@ module _ (net : Network) (right : refusal_of net ≡ 0) where
       let by = hop_by u v hop in
       (function_between net u v, record { has_it = by.has_it; linked = hop.linked; makes = by.makes; weighs = hop_weight net u v hop })
 
-  module _ (U W f N M : ℕ) (has_it : can net U f ≡ true) (linked : present net U W ≡ true) (makes : applied_of net.p net.h f N ≡ After.Number M) where
+  module _ (U W f N M : ℕ) (has_it : can net U f ≡ true) (linked : present net U W ≡ true) (makes : applied_of net.p net.h f N ≡ made M) where
     made_of : By net U N M f
     made_of = record { has_it = has_it; makes = makes }
 

@@ -1,8 +1,7 @@
 -- The table is the theory: for each destination, a network is a graph of crate relax and a table is a state over that graph.
 use Rattle.std.specs.Prelude.{ℕ, ◌/◌, ◌%◌, ◌<◌, ◌≡◌, Bool, true, cond, ◌&&◌, get_or, ltb}
 use Rattle.relax.specs.Graph.{Graph, State, Lawful, Same, Fresh, Deliver}
-use Rattle.functions.specs.Answers.{applied_of, number_after}
-use Rattle.functions.specs.declared.After.{After}
+use Rattle.functions.specs.Answers.{applied_of, number_after, made}
 use Rattle.bits.specs.Bits.{has}
 use Rattle.network.specs.Network.{Network, present}
 use Rattle.gateways.specs.Gateways.{can, weight}
@@ -70,7 +69,7 @@ module _ (net : Network) where
   pub record HopBy (u v f : ℕ) : Type 0 where
     pub has_it : can net (vertex_node net u) f ≡ true
     pub linked : present net (vertex_node net u) (vertex_node net v) ≡ true
-    pub makes : applied_of net.p net.h f (vertex_number net u) ≡ After.Number (vertex_number net v)
+    pub makes : applied_of net.p net.h f (vertex_number net u) ≡ made (vertex_number net v)
     pub weighs : weight_of u v ≡ weight net (vertex_node net u) f (vertex_node net v)
 
   -- ---- what is shown of them where the network is not refused, its numbers have 16 bits and D is one of its nodes (proofs/Theorems.antt)
@@ -95,5 +94,5 @@ module _ (net : Network) where
     pub leads_nowhere : (way N : ℕ) → number_after (applied_of net.p net.h (way % 256) N) ≡ 0 → leads_to way N ≡ rows_each net
     -- the hops are what the specification calls hops
     pub hop_function : (u v : ℕ) → 0 < weight_of u v → (f : ℕ) × HopBy u v f
-    pub function_hop : (U W f N M : ℕ) → can net U f ≡ true → present net U W ≡ true → applied_of net.p net.h f N ≡ After.Number M
+    pub function_hop : (U W f N M : ℕ) → can net U f ≡ true → present net U W ≡ true → applied_of net.p net.h f N ≡ made M
         → weight_of (vertex net U N) (vertex net W M) ≡ weight net U f W
