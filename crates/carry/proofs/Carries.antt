@@ -5,6 +5,9 @@ use mathlib.Core.List.{List}
 use mathlib.Core.Bool.{Bool, true, false, cond, ◌&&◌}
 use lib.Dec.{leb, eqb}
 use borrow.Author.Tests.{le-leb, lt-leb}
+use Rattle.std.specs.Prelude.{Ok, Err, Some}
+use Rattle.refusal.specs.declared.Refusal.{Refusal}
+use Rattle.refusal.specs.Numbers.{refused_with}
 use Rattle.stacks.specs.Stacks.{number}
 use Rattle.network.specs.Network.{Network}
 use Rattle.table.specs.Table.{Table}
@@ -12,18 +15,14 @@ use Rattle.table.specs.Answers.{refusal}
 use Rattle.packet.specs.Packet.{ok_packet, packet_of, Placed}
 use Rattle.packet.specs.declared.Packet.{Packet}
 use Rattle.packet.proofs.Packets.{is_begun, placed, tested, goes_on, is_over}
-use Rattle.carry.specs.Carry.{Journey, stop, journey, carry_of, Carries}
+use Rattle.carry.specs.Carry.{Journey, stop, journey, carry_of, zeros, Carries}
 use Rattle.carry.specs.declared.Carried.{Carried}
-
--- zeros and a refusal
-abbrev pub zeros : ℕ → Carried
-zeros r = record { hops = 0; spent = 0; node = 0; number = 0; refused = r }
 
 same_journey : (j k : Journey) (a : Carried) → j ≡ k → Carries j a → Carries k a
 same_journey j k a e h = subst (λ (x : Journey). Carries x a) e h
 
-stopped : (r : ℕ) (k : Journey) → stop 0 0 r ≡ k → Carries k (zeros r)
-stopped r k e = same_journey (stop 0 0 r) k (zeros r) e (record { hops = refl; spent = refl; node = refl; number = refl; refused = refl })
+stopped : (r : Refusal) (m : ℕ) (k : Journey) → Some r ≡ refused_with m → stop 0 0 m ≡ k → Carries k (zeros r)
+stopped r m k is e = same_journey (stop 0 0 m) k (zeros r) e (record { hops = refl; spent = refl; node = refl; number = refl; refused = is })
 
 one_by_one : (a b : Bool) (x y : Journey) → cond a (cond b x y) y ≡ cond (a && b) x y
 one_by_one true b x y = refl
@@ -40,22 +39,24 @@ module _ (net : Network) (t : Table) (U D : ℕ) (stack : List ℕ) (limit : ℕ
   last = ap (λ (j : Journey). cond (eqb (refusal net t) 0) j (stop 0 0 (refusal net t))) (one_by_one (ok_packet net U D stack) (leb limit 16384)
       (journey net t D limit U (number net.p stack)) (stop 0 0 4))
 
-  module _ (s N : ℕ) {k : Packet} (tells : k ≡ packet_of net t U D stack) (told : k ≡ Packet.Number s N) where
-    pub stands : Placed net s U D N
-    stands = placed net t U D stack s N (is_begun net t U D stack s N tells told)
+  module _ (k : Packet) (told : Ok k ≡ packet_of net t U D stack) where
+    pub stands : Placed net k.stacks U D k.number
+    stands = placed net t U D stack k.stacks k.number (is_begun net t U D stack k told)
 
     begins : far ≡ carry_of net t U D stack limit
-    begins = goes_on net t U D stack far (stop 0 0) s N (is_begun net t U D stack s N tells told) ∙ last
+    begins = goes_on net t U D stack far (stop 0 0) k.stacks k.number (is_begun net t U D stack k told) ∙ last
 
-    pub carried : limit ≤ 16384 → (a : Carried) → Carries (journey net t D limit U N) a → Carries (carry_of net t U D stack limit) a
+    pub carried : limit ≤ 16384 → (a : Carried) → Carries (journey net t D limit U k.number) a → Carries (carry_of net t U D stack limit) a
     unfolding far
     carried low a h =
-        same_journey (journey net t D limit U N) (carry_of net t U D stack limit) a
-        (ap (journey net t D limit U) (is_begun net t U D stack s N tells told).number_is ∙ (simp (le-leb limit 16384 low) at begins)) h
+        same_journey (journey net t D limit U k.number) (carry_of net t U D stack limit) a
+        (ap (journey net t D limit U) (is_begun net t U D stack k told).number_is ∙ (simp (le-leb limit 16384 low) at begins)) h
 
-    pub too_far : 16384 < limit → Carries (carry_of net t U D stack limit) (zeros 4)
+    pub too_far : 16384 < limit → Carries (carry_of net t U D stack limit) (zeros Refusal.Range)
     unfolding far
-    too_far high = stopped 4 (carry_of net t U D stack limit) (simp (lt-leb limit 16384 high) at begins)
+    too_far high = stopped Refusal.Range 4 (carry_of net t U D stack limit) refl (simp (lt-leb limit 16384 high) at begins)
 
-  pub refused : (r : ℕ) {k : Packet} → k ≡ packet_of net t U D stack → k ≡ Packet.Refused r → Carries (carry_of net t U D stack limit) (zeros r)
-  refused r tells told = stopped r (carry_of net t U D stack limit) (is_over net t U D stack far (stop 0 0) r tells told ∙ last)
+  pub refused : (r : Refusal) → Err r ≡ packet_of net t U D stack → Carries (carry_of net t U D stack limit) (zeros r)
+  refused r told =
+      let o = is_over net t U D stack far (stop 0 0) r told in
+      stopped r o.number (carry_of net t U D stack limit) (simp o.some (ap Some o.named_so)) (o.answers ∙ last)

@@ -1,5 +1,7 @@
 -- How far a packet is carried: the part "Carry" of the specification, and what carry answers, for every input.
-use Rattle.std.specs.Prelude.{ℕ, zero, suc, ◌+◌, ◌≡◌, List, cond, ◌&&◌, leb, eqb}
+use Rattle.std.specs.Prelude.{ℕ, zero, suc, ◌+◌, ◌≡◌, List, cond, ◌&&◌, leb, eqb, Result, Ok, Err, Some}
+use Rattle.refusal.specs.declared.Refusal.{Refusal}
+use Rattle.refusal.specs.Numbers.{refusal_number, refused_with}
 use Rattle.stacks.specs.Stacks.{number}
 use Rattle.network.specs.Network.{Network}
 use Rattle.gateways.specs.Gateways.{weight}
@@ -28,11 +30,11 @@ after cost j = record { hops = suc j.hops; spent = cost + j.spent; node = j.node
 module _ (net : Network) (t : Table) (D : ℕ) where
   -- One lookup's answer, with `rest` for the hops that are left, if any are: "At each node being delivered is tested first, then refusals 6
   -- and 7, then the limit." A hop costs "the sum of link and price".
-  abbrev pub onward : ℕ → (ℕ → ℕ → Journey) → ℕ → ℕ → Look → Journey
-  onward left rest U N Look.Delivered = stop U N 0
-  onward left rest U N (Look.Refused r) = stop U N r
-  onward zero rest U N (Look.Forward next f result cost) = stop U N 8
-  onward (suc left) rest U N (Look.Forward next f result cost) = after (weight net U f next) (rest next result)
+  abbrev pub onward : ℕ → (ℕ → ℕ → Journey) → ℕ → ℕ → Result Look Refusal → Journey
+  onward left rest U N (Ok Look.Delivered) = stop U N 0
+  onward left rest U N (Err r) = stop U N (refusal_number r)
+  onward zero rest U N (Ok (Look.Forward x)) = stop U N 8
+  onward (suc left) rest U N (Ok (Look.Forward x)) = after (weight net U x.function x.next) (rest x.next x.number)
 
   -- "lookups in turn until delivered"
   abbrev pub journey : ℕ → ℕ → ℕ → Journey
@@ -46,10 +48,14 @@ carry_of net t U D stack limit =
     (cond (ok_packet net U D stack && leb limit 16384) (journey net t D limit U (number net.p stack)) (stop 0 0 4))
     (stop 0 0 (refusal net t))
 
+-- zeros and a refusal, where the packet does not set out
+abbrev pub zeros : Refusal → Carried
+zeros r = record { hops = 0; spent = 0; node = 0; number = 0; refused = Some r }
+
 -- what carry answers is this journey
 pub record Carries (j : Journey) (answer : Carried) : Type 0 where
   pub hops : answer.hops ≡ j.hops
   pub spent : answer.spent ≡ j.spent
   pub node : answer.node ≡ j.node
   pub number : answer.number ≡ j.number
-  pub refused : answer.refused ≡ j.refused
+  pub refused : answer.refused ≡ refused_with j.refused

@@ -1,87 +1,66 @@
 // How far a packet is carried. The call takes any input; its contract is an equation of specs/Carry.antt.
 #![tactic(auto)]
 
-ghost use Rattle.network.specs.Network.{network_of};
-ghost use Rattle.table.specs.Table.{table_of};
-ghost use Rattle.carry.specs.Carry.{Carries, carry_of};
+ghost use Rattle.std.specs.Prelude.{◌≡◌};
+ghost use Rattle.network.specs.Handed.{network};
+ghost use Rattle.table.specs.Handed.{table_seen};
+ghost use Rattle.carry.specs.Carry.{Carries, carry_of, zeros};
 
 mod journey;
 
 use journey::travel;
-use packet::Packet;
+use network::Network;
+use refusal::Refusal;
+use table::Table;
 
-// How far a packet came: hops, the cost spent on them, the node and stack number reached, and the refusal that stopped it, 0 where delivered.
-#[derive(Clone, Copy)]
+/// How far a packet came: hops, the cost spent on them, the node and stack number reached, and the refusal that stopped it, if it is not delivered.
+#[derive(Clone, Copy, Debug, PartialEq, Eq, Drop)]
 pub struct Carried {
     pub hops: u64,
     pub spent: u64,
     pub node: usize,
     pub number: usize,
-    pub refused: u32,
+    pub refused: Option<Refusal>,
 }
 
-// Lookups in turn until the packet is delivered, one is refused, or `limit` hops are done.
+// What is answered where the packet does not set out.
+fn zeros(refusal: Refusal) -> Carried
+    ensures { result ≡ zeros refusal }
+{
+    Carried {
+        hops: 0,
+        spent: 0,
+        node: 0,
+        number: 0,
+        refused: Some(refusal),
+    }
+}
+
+/// Lookups in turn until the packet is delivered, one is refused, or `limit` hops are done.
 pub fn carry(
-    n: usize,
-    p: usize,
-    h: usize,
-    links: &[u16],
-    functions: &[u16],
-    cost: &[u32],
-    way: &[u16],
-    waiting: &[u32],
+    net: &Network,
+    table: &Table,
     node: usize,
     destination: usize,
     stack: &[u8],
     limit: usize,
 ) -> Carried
-    ensures { Carries (carry_of (network_of n p h links.now functions.now) (table_of cost.now way.now waiting.now)
-        node destination stack.now limit) result }
+    ensures { Carries (carry_of (network net.now) (table_seen table.now) node destination stack.now limit) result }
 {
-    match packet::begin(
-        n,
-        p,
-        h,
-        links,
-        functions,
-        cost,
-        way,
-        waiting,
+    let packet = match packet::begin(net, table, node, destination, stack) {
+        Ok(packet) => packet,
+        Err(refusal) => return zeros(refusal),
+    };
+    if 16384 < limit {
+        return zeros(Refusal::Range);
+    }
+    travel(
+        net,
+        packet.stacks,
+        table,
         node,
         destination,
-        stack,
-    ) {
-        Packet::Number(stacks, number) => {
-            if 16384 < limit {
-                return Carried {
-                    hops: 0,
-                    spent: 0,
-                    node: 0,
-                    number: 0,
-                    refused: 4,
-                };
-            }
-            travel(
-                n,
-                p,
-                h,
-                stacks,
-                links,
-                functions,
-                cost,
-                way,
-                node,
-                destination,
-                number,
-                limit as u64,
-            )
-        }
-        Packet::Refused(refusal) => Carried {
-            hops: 0,
-            spent: 0,
-            node: 0,
-            number: 0,
-            refused: refusal,
-        },
-    }
+        packet.number,
+        limit as u64,
+    )
 }

@@ -5,7 +5,8 @@ use mathlib.Core.Bool.{true}
 use native.Mathlib.Omega.{arith}
 use borrow.Author.Rules.{rules}
 use borrow.Author.Tests.{ltb-true}
-use Rattle.network.specs.Network.{Network, network_of}
+use Rattle.network.specs.Network.{Network}
+use Rattle.network.specs.Handed.{network}
 use Rattle.gateways.specs.Gateways.{word, can, price, weight}
 use Rattle.carry.proofs.journey.hop_cost.Goals as goal
 
@@ -16,7 +17,7 @@ able net U f e = ltb-true 0 (word net U f) e
 pub overflow_sub-result : goal.overflow_sub-result
 overflow_sub-result c =
     let a = c.args in
-    omega (arith, c.word_at-word.ensures, able (network_of a.n a.p a.h a.links.now a.functions.now) a.node a.function c.requires)
+    omega (arith, c.word-word.ensures, able (network a.net.now) a.node a.hop.function c.requires)
 
 pub returns : goal.returns
 unfolding weight price
