@@ -9,26 +9,22 @@ use lib.Dec.{leb}
 use Rattle.lists.proofs.Tests.{both}
 use Rattle.stacks.specs.Stacks.{ok_size, ok_stack, ok_number, number, count, height, stack_of}
 use Rattle.stacks.specs.Answers.{ok_out, count_of, number_of, height_of}
-use Rattle.stacks.specs.declared.Answer.{Answer}
+use Rattle.std.specs.Prelude.{Ok, Err, Some}
+use Rattle.refusal.specs.declared.Refusal.{Refusal}
 use Rattle.stacks.proofs.Count.{count_fits}
 use Rattle.stacks.proofs.Laws.{number_in_range}
 use Rattle.stacks.proofs.Tests.{sizes, within}
 use Rattle.functions.specs.Functions.{ok_function, apply, Outcome, becomes, cannot, inverse}
 use Rattle.functions.specs.Answers.{answer, applied_of, inverse_of}
-use Rattle.functions.specs.declared.After.{After}
 use Rattle.functions.proofs.Back.{inverse_ok}
 use Rattle.functions.proofs.Laws.{leads}
 use Rattle.functions.proofs.Tests.{function}
-use Rattle.packing.specs.Ranges.{RefusalFits}
 use Rattle.stack_exports.specs.Ranges.{AnswerFits, AfterFits}
 
-four : RefusalFits 4
-four = record { some = omega arith; most = omega arith }
-
 -- an answer that is refusal 4 but where a test holds
-by_test : (b : Bool) (value : ℕ) → (b ≡ true → value < 2 ^ 62) → AnswerFits (cond b (Answer.Value value) (Answer.Refused 4))
+by_test : (b : Bool) (value : ℕ) → (b ≡ true → value < 2 ^ 62) → AnswerFits (cond b (Ok value) (Err Refusal.Range))
 by_test true value h = h refl
-by_test false value h = four
+by_test false value h = tt
 
 number_small : (p h n : ℕ) → ok_size p h ≡ true → ok_number p h n ≡ true → n < 2 ^ 62
 number_small p h n size ok = let z = sizes p h size in omega (arith, (within p h n ok).most, count_fits p h z.few z.low)
@@ -56,15 +52,15 @@ inverse_of_fits p f = by_test (leb 1 p && (leb p 8 && ok_function p f)) (inverse
     omega (arith, (function p (inverse f) (inverse_ok p f b.1)).kind))
 
 -- no outcome of a function is a refusal
-outcome_fits : (p : ℕ) (o : Outcome) → ((m : ℕ) → answer p o ≡ After.Number m → (1 ≤ m) × (m < 2 ^ 62)) → AfterFits (answer p o)
+outcome_fits : (p : ℕ) (o : Outcome) → ((m : ℕ) → answer p o ≡ Ok (Some m) → (1 ≤ m) × (m < 2 ^ 62)) → AfterFits (answer p o)
 outcome_fits p (becomes s) h = h (number p s) refl
 outcome_fits p cannot h = tt
 
 pub applied_fits : (p h f n : ℕ) → AfterFits (applied_of p h f n)
 applied_fits p h f n = go (ok_size p h && (ok_number p h n && ok_function p f)) refl
   where
-    go : (b : Bool) → (ok_size p h && (ok_number p h n && ok_function p f)) ≡ b → AfterFits (cond b (answer p (apply h f (stack_of p h n))) (After.Refused 4))
+    go : (b : Bool) → (ok_size p h && (ok_number p h n && ok_function p f)) ≡ b → AfterFits (cond b (answer p (apply h f (stack_of p h n))) (Err Refusal.Range))
     go true e = outcome_fits p (apply h f (stack_of p h n))
-        (λ m d. let l = leads p h f n m (ap (λ c. cond c (answer p (apply h f (stack_of p h n))) (After.Refused 4)) e ∙ d) in
+        (λ m d. let l = leads p h f n m (ap (λ c. cond c (answer p (apply h f (stack_of p h n))) (Err Refusal.Range)) e ∙ d) in
         ((within p h m l.to).some, number_small p h m l.size l.to))
-    go false e = four
+    go false e = tt

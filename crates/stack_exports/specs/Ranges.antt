@@ -1,14 +1,12 @@
 -- The ranges in which nothing is lost: every answer of a call is within them (proofs/StackAnswers.antt).
-use Rattle.std.specs.Prelude.{◌<◌, ◌≤◌, ◌^◌}
-use Rattle.stacks.specs.declared.Answer.{Answer}
-use Rattle.functions.specs.declared.After.{After}
-use Rattle.packing.specs.Ranges.{RefusalFits}
+use Rattle.std.specs.Prelude.{ℕ, ◌<◌, ◌≤◌, ◌^◌, Result, Ok, Err, Option, Some, None}
+use Rattle.refusal.specs.declared.Refusal.{Refusal}
 
-abbrev pub AnswerFits : Answer → Type 0
-AnswerFits (Answer.Value value) = value < 2 ^ 62
-AnswerFits (Answer.Refused refusal) = RefusalFits refusal
+abbrev pub AnswerFits : Result ℕ Refusal → Type 0
+AnswerFits (Ok value) = value < 2 ^ 62
+AnswerFits (Err refusal) = Unit {0}
 
-abbrev pub AfterFits : After → Type 0
-AfterFits (After.Number number) = (1 ≤ number) × (number < 2 ^ 62)
-AfterFits After.NotApplicable = Unit {0}
-AfterFits (After.Refused refusal) = RefusalFits refusal
+abbrev pub AfterFits : Result (Option ℕ) Refusal → Type 0
+AfterFits (Ok (Some number)) = (1 ≤ number) × (number < 2 ^ 62)
+AfterFits (Ok None) = Unit {0}
+AfterFits (Err refusal) = Unit {0}

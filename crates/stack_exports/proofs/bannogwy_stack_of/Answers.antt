@@ -1,7 +1,0 @@
--- `stack_exports::bannogwy_stack_of` meets its contract.
-use mathlib.Core.Path.{ap, ◌∙◌}
-use Rattle.stack_exports.specs.Packing.{pack_answer}
-use Rattle.stack_exports.proofs.bannogwy_stack_of.Goals as goal
-
-pub returns : goal.returns
-returns c = (c.packed_answer.ensures ∙ ap pack_answer c.stack_of.ensures.0, c.stack_of.ensures.1)
