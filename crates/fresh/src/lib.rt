@@ -3,7 +3,7 @@
 
 ghost use Rattle.std.specs.Prelude.{◌≡◌};
 ghost use Rattle.network.specs.Handed.{network};
-ghost use Rattle.table.specs.Handed.{table_held};
+ghost use Rattle.table.specs.Handed.{SameSlices, table_held};
 ghost use Rattle.table.specs.Answers.{fresh_answer, fresh_table};
 
 mod homes;
@@ -17,7 +17,8 @@ use table::ready::ready;
 /// The table before any message is delivered; answers how many wait.
 pub fn fresh(net: &Network, table: &mut TableMut) -> Result<u64, Refusal>
     ensures { (result ≡ fresh_answer (network net.now) (table_held table.old))
-        × (table_held table.new ≡ fresh_table (network net.now) (table_held table.old)) }
+        × (table_held table.new ≡ fresh_table (network net.now) (table_held table.old))
+        × SameSlices table.old table.new }
 {
     let stacks = ready(net, table.cost.len(), table.way.len(), table.waiting.len())?;
     table.cost.fill(4294967295); // no row

@@ -1,5 +1,5 @@
 -- What fresh, count and first waiting answer is within the ranges of specs/Ranges.antt.
-use Prim.Native.Nat.{ℕ, ◌≤◌, min}
+use Prim.Native.Nat.{◌≤◌, min}
 use native.Mathlib.Omega.{arith}
 use mathlib.Core.Path.{◌≡◌, refl, ◌∙◌}
 use lib.ListN.{length, get_or}
@@ -14,13 +14,12 @@ use Rattle.network.specs.Network.{Network, stacks}
 use Rattle.network.proofs.Laws.{valid}
 use Rattle.table.specs.Table.{Table, rows_all, fresh}
 use Rattle.table.specs.Answers.{refusal, fresh_answer, count_answer, first_of, first_answer}
-use Rattle.table.specs.declared.Counted.{Counted}
-use Rattle.table.specs.declared.First.{First}
+use Rattle.std.specs.Prelude.{Ok, Err, Option, Some, None}
+use Rattle.refusal.specs.Numbers.{named}
 use Rattle.table.proofs.Begins.{Ready, divides, rows_few}
 use Rattle.table.proofs.Rows.{is_row}
 use Rattle.table.proofs.Refusals.{by_refusal}
-use Rattle.packing.specs.Ranges.{RefusalFits}
-use Rattle.table_exports.specs.Ranges.{CountedFits, FirstFits}
+use Rattle.table_exports.specs.Ranges.{CountedFits, FoundFits, FirstFits}
 
 -- ---- the count of messages: 32 bits to a word
 pub count_most : (net : Network) (t : Table) → Ready net t (stacks net) → ones_in t.waiting ≤ 16777216
@@ -33,23 +32,21 @@ fresh_long net = length_tabulate (rows_all net) _
 fresh_most : (net : Network) (t : Table) → Ready net t (stacks net) → ones_in (fresh net).waiting ≤ 16777216
 fresh_most net t r = omega (arith, ones_in_most (fresh net).waiting, fresh_long net, (rows_few net t (stacks net) r).2)
 
--- a table's refusals are within the range
-fits : {r : ℕ} → 1 ≤ r → r ≤ 3 → RefusalFits r
-fits some few = record { some = some; most = omega (arith, few) }
-
 pub count_fits : (net : Network) (t : Table) → CountedFits (count_answer net t)
-count_fits net t = by_refusal net t CountedFits (Counted.Messages (ones_in t.waiting)) (Counted.Refused (refusal net t))
-    (λ r. omega (arith, count_most net t r)) fits
+count_fits net t = by_refusal net t CountedFits (Ok (ones_in t.waiting)) (Err (named (refusal net t)))
+    (λ r. omega (arith, count_most net t r)) (λ some few. tt)
 
 pub fresh_fits : (net : Network) (t : Table) → CountedFits (fresh_answer net t)
-fresh_fits net t = by_refusal net t CountedFits (Counted.Messages (ones_in (fresh net).waiting)) (Counted.Refused (refusal net t))
-    (λ r. omega (arith, fresh_most net t r)) fits
+fresh_fits net t = by_refusal net t CountedFits (Ok (ones_in (fresh net).waiting)) (Err (named (refusal net t)))
+    (λ r. omega (arith, fresh_most net t r)) (λ some few. tt)
 
 -- ---- the first message
 module _ (net : Network) (t : Table) (r : Ready net t (stacks net)) where
-  found_fits : (f : Found) → first_in t.waiting ≡ f → FirstFits (first_of net t f)
-  found_fits Found.Nowhere e = tt
-  found_fits (Found.At i bit) e =
+  found_fits : (f : Option Found) → first_in t.waiting ≡ f → FoundFits (first_of net t f)
+  found_fits None e = tt
+  found_fits (Some f) e =
+      let i = f.word in
+      let bit = f.bit in
       let here : Here t.waiting 0 (min (length t.waiting) (length t.waiting)) i bit = first_at t.waiting 0 (length t.waiting) i bit (first_whole t.waiting
       ∙ e) in
       let row = is_row net i (omega (arith, here.inside, r.waiting_long)) in
@@ -62,5 +59,5 @@ module _ (net : Network) (t : Table) (r : Ready net t (stacks net)) where
       }
 
 pub first_fits : (net : Network) (t : Table) → FirstFits (first_answer net t)
-first_fits net t = by_refusal net t FirstFits (first_of net t (first_in t.waiting)) (First.Refused (refusal net t))
-    (λ r. found_fits net t r (first_in t.waiting) refl) fits
+first_fits net t = by_refusal net t FirstFits (Ok (first_of net t (first_in t.waiting))) (Err (named (refusal net t)))
+    (λ r. found_fits net t r (first_in t.waiting) refl) (λ some few. tt)

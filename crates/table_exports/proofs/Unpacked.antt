@@ -3,10 +3,11 @@ use Prim.Native.Nat.{ℕ, ◌+◌, ◌*◌, ◌/◌, ◌^◌}
 use native.Mathlib.Omega.{arith}
 use mathlib.Core.Path.{◌≡◌, refl}
 use borrow.Author.Tests.{eq-eqb, ne_eqb}
-use Rattle.table.specs.declared.Counted.{Counted}
-use Rattle.table.specs.declared.First.{First}
+use Rattle.std.specs.Prelude.{Result, Ok, Err, Option, Some, None}
+use Rattle.refusal.specs.declared.Refusal.{Refusal}
+use Rattle.table.specs.declared.Message.{Message}
 use Rattle.packing.specs.Packing.{is_refused, is_found, sender_in, receiver_in, destination_in, low_in}
-use Rattle.packing.proofs.Unpacked.{refusal_read, value_read, apart}
+use Rattle.packing.proofs.Unpacked.{refused_back, value_read, apart}
 use Rattle.table_exports.specs.Packing.{pack_counted, pack_message, pack_first, unpack_counted, unpack_first}
 use Rattle.table_exports.specs.Ranges.{MessageFits, CountedFits, FirstFits}
 
@@ -29,28 +30,29 @@ message_read s r d n f =
     record { told = omega arith; found = omega arith; sends = omega arith; hears = omega arith; known = omega arith; numbered = omega arith }
 
 -- ---- each answer is read back
-pub counted_back : (a : Counted) → CountedFits a → unpack_counted (pack_counted a) ≡ a
+pub counted_back : (a : Result ℕ Refusal) → CountedFits a → unpack_counted (pack_counted a) ≡ a
 unfolding unpack_counted
-counted_back (Counted.Messages m) f = value_read m (omega arith) _ _
-counted_back (Counted.Refused r) f = refusal_read r f _ Counted.Refused
+counted_back (Ok m) f = value_read m (omega arith) _ _
+counted_back (Err r) f = refused_back r _
 
-pub first_back : (a : First) → FirstFits a → unpack_first (pack_first a) ≡ a
+pub first_back : (a : Result (Option Message) Refusal) → FirstFits a → unpack_first (pack_first a) ≡ a
 unfolding unpack_first
-first_back (First.Message s d n r) f =
-    let m = message_read s r d n f in
+first_back (Ok (Some m)) f =
+    let x = pack_message m.sender m.receiver m.destination m.number in
+    let read = message_read m.sender m.receiver m.destination m.number f in
     simp (
-      eq-eqb (is_refused (pack_message s r d n)) 0 m.told,
-      ne_eqb (is_found (pack_message s r d n)) 0 (λ e. omega (arith, e, m.found)),
-      m.sends,
-      m.hears,
-      m.known,
-      m.numbered,
+      eq-eqb (is_refused x) 0 read.told,
+      ne_eqb (is_found x) 0 (λ e. omega (arith, e, read.found)),
+      read.sends,
+      read.hears,
+      read.known,
+      read.numbered,
     )
-first_back First.Quiet f = refl
-first_back (First.Refused r) f = refusal_read r f _ First.Refused
+first_back (Ok None) f = refl
+first_back (Err r) f = refused_back r _
 
-pub counted_apart : (a b : Counted) → CountedFits a → CountedFits b → pack_counted a ≡ pack_counted b → a ≡ b
+pub counted_apart : (a b : Result ℕ Refusal) → CountedFits a → CountedFits b → pack_counted a ≡ pack_counted b → a ≡ b
 counted_apart a b f g e = apart pack_counted unpack_counted a b (counted_back a f) (counted_back b g) e
 
-pub first_apart : (a b : First) → FirstFits a → FirstFits b → pack_first a ≡ pack_first b → a ≡ b
+pub first_apart : (a b : Result (Option Message) Refusal) → FirstFits a → FirstFits b → pack_first a ≡ pack_first b → a ≡ b
 first_apart a b f g e = apart pack_first unpack_first a b (first_back a f) (first_back b g) e

@@ -1,8 +1,7 @@
 -- The ranges in which nothing is lost: every answer of a call is within them (proofs/Answered.antt).
-use Rattle.std.specs.Prelude.{ℕ, ◌<◌, ◌≤◌}
-use Rattle.table.specs.declared.Counted.{Counted}
-use Rattle.table.specs.declared.First.{First}
-use Rattle.packing.specs.Ranges.{RefusalFits}
+use Rattle.std.specs.Prelude.{ℕ, ◌<◌, ◌≤◌, Result, Ok, Err, Option, Some, None}
+use Rattle.refusal.specs.declared.Refusal.{Refusal}
+use Rattle.table.specs.declared.Message.{Message}
 
 -- a receiver is a bit below 32; 32 is let in so that no law has to ask that a word of the table fits 32 bits
 pub record MessageFits (sender receiver destination number : ℕ) : Type 0 where
@@ -12,11 +11,14 @@ pub record MessageFits (sender receiver destination number : ℕ) : Type 0 where
   pub numbered : number ≤ 16384
 
 -- "at most 16,777,216"
-abbrev pub CountedFits : Counted → Type 0
-CountedFits (Counted.Messages messages) = messages ≤ 16777216
-CountedFits (Counted.Refused refusal) = RefusalFits refusal
+abbrev pub CountedFits : Result ℕ Refusal → Type 0
+CountedFits (Ok messages) = messages ≤ 16777216
+CountedFits (Err refusal) = Unit {0}
 
-abbrev pub FirstFits : First → Type 0
-FirstFits (First.Message sender destination number receiver) = MessageFits sender receiver destination number
-FirstFits First.Quiet = Unit {0}
-FirstFits (First.Refused refusal) = RefusalFits refusal
+abbrev pub FoundFits : Option Message → Type 0
+FoundFits (Some m) = MessageFits m.sender m.receiver m.destination m.number
+FoundFits None = Unit {0}
+
+abbrev pub FirstFits : Result (Option Message) Refusal → Type 0
+FirstFits (Ok found) = FoundFits found
+FirstFits (Err refusal) = Unit {0}

@@ -5,11 +5,12 @@ ghost use Rattle.std.specs.Prelude.{◌≡◌};
 ghost use Rattle.network.specs.Network.{network_of};
 ghost use Rattle.table.specs.Answers.{count_answer, first_answer, fresh_answer, fresh_table};
 ghost use Rattle.table.specs.Table.{table_of};
-ghost use Rattle.table_exports.specs.Packing.{pack_counted, pack_first};
+ghost use Rattle.table_exports.specs.Packing.{pack_counted, pack_first, pack_found};
+ghost use Rattle.table_exports.specs.Ranges.{FoundFits};
 
-mod packed;
-
-use packed::{packed_counted, packed_first};
+use network::Network;
+use packing::packed;
+use table::{Message, Table, TableMut};
 
 // Writes the fresh table; answers how many messages wait.
 #[unsafe(no_mangle)]
@@ -26,7 +27,14 @@ pub extern "C" fn bannogwy_fresh(
     ensures { (result ≡ pack_counted (fresh_answer (network_of n p h links.now functions.now) (table_of cost.old way.old waiting.old)))
         × (table_of cost.new way.new waiting.new ≡ fresh_table (network_of n p h links.now functions.now) (table_of cost.old way.old waiting.old)) }
 {
-    packed_counted(fresh::fresh(n, p, h, links, functions, cost, way, waiting))
+    let net = Network {
+        n,
+        p,
+        h,
+        links,
+        functions,
+    };
+    packed(fresh::fresh(&net, &mut TableMut { cost, way, waiting }))
 }
 
 // How many messages wait.
@@ -43,7 +51,29 @@ pub extern "C" fn bannogwy_count(
 ) -> u64
     ensures { result ≡ pack_counted (count_answer (network_of n p h links.now functions.now) (table_of cost.now way.now waiting.now)) }
 {
-    packed_counted(waiting::count(n, p, h, links, functions, cost, way, waiting))
+    let net = Network {
+        n,
+        p,
+        h,
+        links,
+        functions,
+    };
+    packed(waiting::count(&net, &Table { cost, way, waiting }))
+}
+
+// A message as a number; 0 for none.
+fn packed_found(found: Option<Message>) -> u64
+    requires { FoundFits found }
+    ensures { result ≡ pack_found found }
+{
+    let Some(message) = found else {
+        return 0;
+    };
+    4611686018427387904
+        + message.sender as u64 * 72057594037927936
+        + message.receiver as u64 * 281474976710656
+        + message.destination as u64 * 1099511627776
+        + message.number as u64
 }
 
 // The first message that waits.
@@ -60,5 +90,12 @@ pub extern "C" fn bannogwy_first_waiting(
 ) -> u64
     ensures { result ≡ pack_first (first_answer (network_of n p h links.now functions.now) (table_of cost.now way.now waiting.now)) }
 {
-    packed_first(waiting::first_waiting(n, p, h, links, functions, cost, way, waiting))
+    let net = Network {
+        n,
+        p,
+        h,
+        links,
+        functions,
+    };
+    packed(waiting::first_waiting(&net, &Table { cost, way, waiting }).map(packed_found))
 }

@@ -27,6 +27,7 @@ returns c =
     let ways = c.fill-2.ensures.after (λ y e. search rules) in (
       fresh_count _ _ _ r _ _ _ set.0 ways set.1 _ set.2,
       fresh_table_lem _ _ _ r _ _ _ set.0 ways set.1,
+      search rules,
     )
 
 pub returns-in_err-stacks : goal.returns-in_err-stacks
@@ -34,4 +35,4 @@ returns-in_err-stacks c =
     let same : c.from_residual.result ≡ Err c.in_err-stacks.field-0.0 = search rules in
     let e = fresh_refused (network c.args.net.now) (table_held c.args.table.now) c.in_err-stacks.field-0.0
     (is_refused (network c.args.net.now) (table_held c.args.table.now) c.in_err-stacks.field-0.0 (sym c.in_err-stacks.ensures)) in
-    (same ∙ e.0, e.1)
+    (same ∙ e.0, e.1, search rules)

@@ -1,7 +1,0 @@
--- `table_exports::bannogwy_fresh` meets its contract.
-use mathlib.Core.Path.{ap, ◌∙◌}
-use Rattle.table_exports.specs.Packing.{pack_counted}
-use Rattle.table_exports.proofs.bannogwy_fresh.Goals as goal
-
-pub returns : goal.returns
-returns c = (c.packed_counted.ensures ∙ ap pack_counted c.fresh.ensures.0, c.fresh.ensures.1)
