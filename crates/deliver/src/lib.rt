@@ -3,7 +3,7 @@
 
 ghost use Rattle.std.specs.Prelude.{◌≡◌};
 ghost use Rattle.network.specs.Handed.{network};
-ghost use Rattle.table.specs.Handed.{table_held};
+ghost use Rattle.table.specs.Handed.{SameSlices, table_held};
 ghost use Rattle.table.specs.Answers.{deliver_answer, deliver_table};
 
 use network::Network;
@@ -14,7 +14,8 @@ use table::{Message, TableMut};
 // before `step` makes its tests, since a delivery is seldom refused.
 pub fn deliver(net: &Network, table: &mut TableMut, message: Message) -> Result<usize, Refusal>
     ensures { (result ≡ deliver_answer (network net.now) (table_held table.old) message.sender message.receiver message.destination message.number)
-        × (table_held table.new ≡ deliver_table (network net.now) (table_held table.old) message.sender message.receiver message.destination message.number) }
+        × (table_held table.new ≡ deliver_table (network net.now) (table_held table.old) message.sender message.receiver message.destination message.number)
+        × SameSlices table.old table.new }
 {
     let stacks = table::ready::ready(net, table.cost.len(), table.way.len(), table.waiting.len())?;
     let gateway = step::gateway_at(net, stacks, message.receiver);

@@ -5,7 +5,7 @@ ghost use Rattle.std.specs.Prelude.{◌≡◌, ◌<◌, length, get_or};
 ghost use Rattle.network.specs.Handed.{network};
 ghost use Rattle.hear.specs.Handed.{gateway_seen, message_seen};
 ghost use Rattle.table.specs.Table.{table_of};
-ghost use Rattle.table.specs.Handed.{table_held};
+ghost use Rattle.table.specs.Handed.{SameSlices, table_held};
 ghost use Rattle.table.specs.Answers.{ok_message_in};
 ghost use Rattle.step.specs.Step.{ok_rows, Stepped};
 ghost use Rattle.step.specs.Steps.{told_of, HasPart, Received};
@@ -144,7 +144,7 @@ pub fn step(
     message: Message,
 ) -> Result<usize, Refusal>
     ensures { Stepped n (gateway_seen gateway) link (table_held table.old) message.sender message.receiver message.destination message.number
-        result (table_held table.new) }
+        result (table_held table.new) × SameSlices table.old table.new }
 {
     let told = read_row(n, gateway.p, gateway.most, link, table, message)?;
     let Message {

@@ -1,5 +1,5 @@
 -- `deliver::deliver` meets its contract.
-use mathlib.Core.Path.{◌≡◌, sym}
+use mathlib.Core.Path.{◌≡◌, sym, ◌∙◌}
 use Rattle.std.proofs.Common.{rules, Err}
 use Rattle.network.specs.Handed.{network}
 use Rattle.table.specs.Handed.{table_held}
@@ -13,13 +13,15 @@ returns-in_err-stacks c =
     let m = a.message in
     let r = c.in_err-stacks.field-0.0 in
     let same : c.from_residual.result ≡ Err r = search rules in
-    rw same (not_begun (network a.net.now) (table_held a.table.now) m.sender m.receiver m.destination m.number r
-    (is_refused (network a.net.now) (table_held a.table.now) r (sym c.in_err-stacks.ensures)))
+    let stays = not_begun (network a.net.now) (table_held a.table.now) m.sender m.receiver m.destination m.number r
+    (is_refused (network a.net.now) (table_held a.table.now) r (sym c.in_err-stacks.ensures)) in
+    (same ∙ stays.0, stays.1, search rules)
 
 pub returns : goal.returns
 returns c =
     let a = c.args in
     let m = a.message in
     let s = c.in_ok-stacks.stacks in
-    delivers (network a.net.now) (table_held a.table.now) m.sender m.receiver m.destination m.number s c.link-back.result c.gateway_at-gateway.result c.step.result
-    _ (is_ready (network a.net.now) (table_held a.table.now) s (sym c.in_ok-stacks.ensures)) c.link-back.ensures c.gateway_at-gateway.ensures c.step.ensures
+    let done = delivers (network a.net.now) (table_held a.table.now) m.sender m.receiver m.destination m.number s c.link-back.result c.gateway_at-gateway.result c.step.result
+    _ (is_ready (network a.net.now) (table_held a.table.now) s (sym c.in_ok-stacks.ensures)) c.link-back.ensures c.gateway_at-gateway.ensures c.step.ensures.0 in
+    (done.0, done.1, c.step.ensures.1)

@@ -13,9 +13,11 @@ pub returns-in_err-told : goal.returns-in_err-told
 returns-in_err-told c =
     let a = c.args in
     let m = a.message in
-    let same : c.from_residual.result ≡ Err c.in_err-told.field-0.0 = search rules in
-    rw same (refuses a.n (gateway_seen a.gateway) a.link (table_held a.table.now) m.sender m.receiver m.destination m.number c.in_err-told.field-0.0
-    c.in_err-told.ensures)
+    let same : c.from_residual.result ≡ Err c.in_err-told.field-0.0 = search rules in (
+      rw same (refuses a.n (gateway_seen a.gateway) a.link (table_held a.table.now) m.sender m.receiver m.destination m.number c.in_err-told.field-0.0
+          c.in_err-told.ensures),
+      search rules,
+    )
 
 -- where the tests hold: what they said, and that the sums fit
 pass : (c : In_ok-told) → let a = c.args in let m = a.message in
@@ -56,6 +58,8 @@ pub returns : goal.returns
 returns c =
     let a = c.args in
     let m = a.message in
-    let x = c.receive in
-    delivers a.n (gateway_seen a.gateway) a.link (table_held a.table.now) m.sender m.receiver m.destination m.number c.in_ok-told.told.place
-    c.in_ok-told.told.cost (pass (goal.at.returns c).In_ok-told) c.without.result x.result _ c.without.ensures x.ensures
+    let x = c.receive in (
+      delivers a.n (gateway_seen a.gateway) a.link (table_held a.table.now) m.sender m.receiver m.destination m.number c.in_ok-told.told.place
+          c.in_ok-told.told.cost (pass (goal.at.returns c).In_ok-told) c.without.result x.result _ c.without.ensures x.ensures,
+      search rules,
+    )
