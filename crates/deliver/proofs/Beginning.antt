@@ -1,37 +1,33 @@
 -- What `deliver` answers, from what `ready` and `step` answer.
-use Prim.Native.Nat.{ℕ, ◌≤◌}
-use native.Mathlib.Omega.{arith}
-use mathlib.Core.Path.{◌≡◌, ◌∙◌}
+use Prim.Native.Nat.{ℕ}
+use mathlib.Core.Path.{◌≡◌, ap, ◌∙◌}
 use mathlib.Core.Bool.{false}
-use mathlib.Core.List.{List}
 use lib.Dec.{eqb}
-use borrow.Author.Tests.{ne_eqb}
+use Rattle.std.specs.Prelude.{Result, Err}
+use Rattle.refusal.specs.declared.Refusal.{Refusal}
+use Rattle.refusal.specs.Numbers.{named}
 use Rattle.network.specs.Network.{Network, link}
-use Rattle.hear.specs.Answers.{gateway_of}
+use Rattle.hear.specs.Handed.{gateway_seen}
+use Rattle.hear.specs.declared.Gateway.{Gateway}
 use Rattle.table.specs.Table.{Table}
 use Rattle.table.specs.Answers.{refusal, message_refusal, deliver_refusal, deliver_answer, deliver_table}
-use Rattle.table.specs.declared.Delivered.{Delivered}
-use Rattle.table.proofs.Begins.{Ready, sized_so, begun, stopped}
+use Rattle.table.proofs.Begins.{Ready, sized_so, begun}
 use Rattle.step.specs.Step.{Stepped}
-use Rattle.step.specs.InNetwork.{Equipped, step_table}
+use Rattle.step.specs.InNetwork.{gateway_at, step_table}
 use Rattle.step.proofs.Network.{step_delivers}
 
 module _ (net : Network) (t : Table) (Q U D N : ℕ) where
   -- nothing is refused before the step
-  pub delivers : (s back near : ℕ) (convert wrap unwrap : List (List ℕ)) (answer : Delivered) (after : Table)
-      → Ready net t s → Equipped net U near convert wrap unwrap → back ≡ link net U Q
-      → Stepped net.n (gateway_of net.p s near convert wrap unwrap) back t Q U D N answer after
-      → (answer ≡ deliver_answer net t Q U D N) × (after ≡ deliver_table net t Q U D N)
+  pub delivers : (s back : ℕ) (g : Gateway) (answer : Result ℕ Refusal) (after : Table) → Ready net t s → back ≡ link net U Q → g ≡ gateway_at net s U
+      → Stepped net.n (gateway_seen g) back t Q U D N answer after → (answer ≡ deliver_answer net t Q U D N) × (after ≡ deliver_table net t Q U D N)
   unfolding deliver_refusal deliver_table step_table
-  delivers s back near convert wrap unwrap answer after w own l x =
+  delivers s back g answer after w l own x =
       let e : deliver_refusal net t Q U D N ≡ message_refusal net t Q U D N = begun net t s w (message_refusal net t Q U D N) (refusal net t) in
-      let d = step_delivers net t w.network (sized_so net t s w) Q U D N near convert wrap unwrap (λ _. own) s back answer after w.stacks_are l x in
+      let d = step_delivers net t w.network (sized_so net t s w) Q U D N s back g answer after w.stacks_are l own x in
       (d.0 ∙ simp e, d.1 ∙ simp e)
 
   -- the network or the table is refused
-  pub not_begun : (k : ℕ) → (refusal net t ≡ k) × (1 ≤ k) → (Delivered.Refused k ≡ deliver_answer net t Q U D N) × (t ≡ deliver_table net t Q U D N)
+  pub not_begun : (r : Refusal) → (r ≡ named (refusal net t)) × (eqb (refusal net t) 0 ≡ false)
+      → (Err r ≡ deliver_answer net t Q U D N) × (t ≡ deliver_table net t Q U D N)
   unfolding deliver_refusal deliver_table
-  not_begun k h =
-      let e : deliver_refusal net t Q U D N ≡ k = stopped net t k h (message_refusal net t Q U D N) (refusal net t) ∙ h.0 in
-      let some : eqb k 0 ≡ false = ne_eqb k 0 (λ (z : k ≡ 0). omega (arith, h.1)) in
-      (simp (e, some), simp (e, some))
+  not_begun r h = (simp h.1 (ap Err h.0), simp h.1)

@@ -11,7 +11,7 @@ use Rattle.lists.proofs.Tests.{bool_cases, both}
 use Rattle.relax.specs.Graph.{wins}
 use Rattle.relax.proofs.Laws.{wins_below, loses_above}
 use Rattle.functions.specs.Answers.{moved_of}
-use Rattle.functions.specs.declared.After.{After}
+use Rattle.std.specs.Prelude.{Ok, Some}
 use Rattle.bits.specs.Bits.{without, with_all}
 use Rattle.network.specs.Network.{Network, stacks, link, present, neighbours, refusal_of}
 use Rattle.network.proofs.Laws.{valid}
@@ -28,7 +28,7 @@ use Rattle.table.proofs.Deliveries.{Goes, goes, leader_of, offer_to, took, chang
 pub record Leads (net : Network) (U N M f : ℕ) : Type 0 where
   pub low : f < 192
   pub has_it : can net U f ≡ true
-  pub makes : moved_of net.p (stacks net) f M ≡ After.Number N
+  pub makes : moved_of net.p (stacks net) f M ≡ Ok (Some N)
 
 module _ (net : Network) (t : Table) (Q U D N : ℕ) where
   -- "the offer is c + link(U,V) + price(U,f)"

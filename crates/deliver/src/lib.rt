@@ -2,61 +2,22 @@
 #![tactic(auto)]
 
 ghost use Rattle.std.specs.Prelude.{◌≡◌};
-ghost use Rattle.network.specs.Network.{network_of};
-ghost use Rattle.table.specs.Table.{table_of};
+ghost use Rattle.network.specs.Handed.{network};
+ghost use Rattle.table.specs.Handed.{table_held};
 ghost use Rattle.table.specs.Answers.{deliver_answer, deliver_table};
 
-use network::Checked;
-use table::Delivered;
-use table::ready::ready;
+use network::Network;
+use refusal::Refusal;
+use table::{Message, TableMut};
 
-// One waiting message is delivered: the sender's bit is cleared, and the receiver's rows take the offers that are cheaper. The neighbours and grids are
-// worked out before `step` makes its tests, since a delivery is seldom refused.
-pub fn deliver(
-    n: usize,
-    p: usize,
-    h: usize,
-    links: &[u16],
-    functions: &[u16],
-    cost: &mut [u32],
-    way: &mut [u16],
-    waiting: &mut [u32],
-    sender: usize,
-    receiver: usize,
-    destination: usize,
-    number: usize,
-) -> Delivered
-    ensures { (result ≡ deliver_answer (network_of n p h links.now functions.now) (table_of cost.old way.old waiting.old) sender receiver destination number)
-        × (table_of cost.new way.new waiting.new ≡ deliver_table
-        (network_of n p h links.now functions.now) (table_of cost.old way.old waiting.old) sender receiver destination number) }
+// One waiting message is delivered: the sender's bit is cleared, and the receiver's rows take the offers that are cheaper. The gateway is worked out
+// before `step` makes its tests, since a delivery is seldom refused.
+pub fn deliver(net: &Network, table: &mut TableMut, message: Message) -> Result<usize, Refusal>
+    ensures { (result ≡ deliver_answer (network net.now) (table_held table.old) message.sender message.receiver message.destination message.number)
+        × (table_held table.new ≡ deliver_table (network net.now) (table_held table.old) message.sender message.receiver message.destination message.number) }
 {
-    match ready(
-        n,
-        p,
-        h,
-        links,
-        functions,
-        cost.len(),
-        way.len(),
-        waiting.len(),
-    ) {
-        Checked::Stacks(stacks) => step::step(
-            n,
-            p,
-            stacks,
-            cost,
-            way,
-            waiting,
-            network::neighbours(n, links, receiver),
-            gateways::grid(n, p, functions, receiver, 0),
-            gateways::grid(n, p, functions, receiver, 1),
-            gateways::grid(n, p, functions, receiver, 2),
-            network::link_cost(n, links, receiver, sender),
-            sender,
-            receiver,
-            destination,
-            number,
-        ),
-        Checked::Refused(refusal) => Delivered::Refused(refusal),
-    }
+    let stacks = table::ready::ready(net, table.cost.len(), table.way.len(), table.waiting.len())?;
+    let gateway = step::gateway_at(net, stacks, message.receiver);
+    let back = net.link(message.receiver, message.sender);
+    step::step(net.n, gateway, back, table, message)
 }

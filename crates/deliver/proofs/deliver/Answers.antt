@@ -1,27 +1,27 @@
 -- `deliver::deliver` meets its contract.
-use mathlib.Core.Path.{sym}
-use Rattle.network.specs.Network.{network_of}
-use Rattle.table.specs.Table.{table_of}
+use mathlib.Core.Path.{◌≡◌, sym}
+use Rattle.std.proofs.Common.{rules, Err}
+use Rattle.network.specs.Handed.{network}
+use Rattle.table.specs.Handed.{table_held}
 use Rattle.table.proofs.Begins.{is_ready, is_refused}
 use Rattle.deliver.proofs.Beginning.{delivers, not_begun}
 use Rattle.deliver.proofs.deliver.Goals as goal
 
-pub returns-in-Stacks : goal.returns-in-Stacks
-returns-in-Stacks c =
+pub returns-in_err-stacks : goal.returns-in_err-stacks
+returns-in_err-stacks c =
     let a = c.args in
-    let x = c.step in
-    let stacks = c.in-Stacks.stacks in
-    delivers (network_of a.n a.p a.h a.links.now a.functions.now) (table_of a.cost.now a.way.now a.waiting.now) a.sender a.receiver a.destination a.number
-    stacks c.link_cost.result c.neighbours.result c.grid.result c.grid-in-Stacks.result c.grid-in-Stacks-2.result x.result
-    (table_of x.new.cost x.new.way x.new.waiting) (is_ready (network_of a.n a.p a.h a.links.now a.functions.now)
-    (table_of a.cost.now a.way.now a.waiting.now) stacks (sym c.in-Stacks.ensures))
-    (record { near_are = c.neighbours.ensures; converts = c.grid.ensures; wraps = c.grid-in-Stacks.ensures; unwraps = c.grid-in-Stacks-2.ensures })
-    c.link_cost.ensures x.ensures
+    let m = a.message in
+    let r = c.in_err-stacks.field-0.0 in
+    let same : c.from_residual.result ≡ Err r = search rules in
+    rw same (not_begun (network a.net.now) (table_held a.table.now) m.sender m.receiver m.destination m.number r
+    (is_refused (network a.net.now) (table_held a.table.now) r (sym c.in_err-stacks.ensures)))
 
-pub returns-in-Refused : goal.returns-in-Refused
-returns-in-Refused c =
+pub returns : goal.returns
+returns c =
     let a = c.args in
-    not_begun (network_of a.n a.p a.h a.links.now a.functions.now) (table_of a.cost.now a.way.now a.waiting.now) a.sender a.receiver a.destination a.number
-    c.in-Refused.refusal
-    (is_refused (network_of a.n a.p a.h a.links.now a.functions.now) (table_of a.cost.now a.way.now a.waiting.now) c.in-Refused.refusal
-    (sym c.in-Refused.ensures))
+    let m = a.message in
+    let s = c.in_ok-stacks.stacks in
+    let g = c.gateway_at-gateway in
+    let x = c.step in
+    delivers (network a.net.now) (table_held a.table.now) m.sender m.receiver m.destination m.number s c.link-back.result g.result x.result _
+    (is_ready (network a.net.now) (table_held a.table.now) s (sym c.in_ok-stacks.ensures)) c.link-back.ensures g.ensures x.ensures
