@@ -22,6 +22,8 @@ returns c =
     let a = c.args in
     let m = a.message in
     let s = c.in_ok-stacks.stacks in
-    let done = delivers (network a.net.now) (table_held a.table.now) m.sender m.receiver m.destination m.number s c.link-back.result c.gateway_at-gateway.result c.step.result
-    _ (is_ready (network a.net.now) (table_held a.table.now) s (sym c.in_ok-stacks.ensures)) c.link-back.ensures c.gateway_at-gateway.ensures c.step.ensures.0 in
-    (done.0, done.1, c.step.ensures.1)
+    let g = c.gateway_at-gateway in
+    let x = c.step in
+    let done = delivers (network a.net.now) (table_held a.table.now) m.sender m.receiver m.destination m.number s c.link-back.result g.result x.result _
+    (is_ready (network a.net.now) (table_held a.table.now) s (sym c.in_ok-stacks.ensures)) c.link-back.ensures g.ensures x.ensures.0 in
+    (done.0, done.1, x.ensures.1)
