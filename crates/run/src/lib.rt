@@ -2,7 +2,7 @@
 #![tactic(auto)]
 
 ghost use Rattle.network.specs.Handed.{network};
-ghost use Rattle.table.specs.Handed.{table_held};
+ghost use Rattle.table.specs.Handed.{SameSlices, table_held};
 ghost use Rattle.table.specs.Run.{Runs, run_of};
 
 mod search;
@@ -15,7 +15,7 @@ use turns::take_turns;
 
 // Delivers the first waiting message, again and again, until none waits, a delivery is refused, or `limit` are done.
 pub fn run(net: &Network, table: &mut TableMut, limit: u32) -> Ran
-    ensures { Runs (run_of (network net.now) limit (table_held table.old)) result (table_held table.new) }
+    ensures { Runs (run_of (network net.now) limit (table_held table.old)) result (table_held table.new) × SameSlices table.old table.new }
 {
     match ready(net, table.cost.len(), table.way.len(), table.waiting.len()) {
         Ok(stacks) => take_turns(net, stacks, table, limit),

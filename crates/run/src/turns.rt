@@ -2,7 +2,7 @@
 ghost use Rattle.std.specs.Prelude.{◌≡◌, true, ℕ, ◌≤◌};
 ghost use Rattle.bits.specs.Bits.{word_of};
 ghost use Rattle.network.specs.Handed.{network};
-ghost use Rattle.table.specs.Handed.{table_held};
+ghost use Rattle.table.specs.Handed.{SameSlices, table_held};
 ghost use Rattle.table.specs.Run.{Runs, steps};
 ghost use Rattle.run.specs.Flags.{Flagged};
 ghost use Rattle.run.specs.Turns.{Prepared, AllEquipped, Turned};
@@ -33,7 +33,8 @@ fn take_turn(
     requires prepared { Prepared (network net.now) stacks (table_held table.old) }
     requires equipped { AllEquipped (network net.now) stacks gateways.now }
     requires flagged { Flagged net.now.n stacks flags.old table.old.waiting.now }
-    ensures { Turned (network net.now) stacks (table_held table.old) result (table_held table.new) flags.new }
+    ensures { Turned (network net.now) stacks (table_held table.old) result (table_held table.new) flags.new
+        × SameSlices table.old table.new }
 {
     let n = net.n;
     let Some(found) = search_flagged(n, stacks, flags, table) else {
@@ -73,7 +74,7 @@ fn all_flags(n: usize) -> u32
 // Turns until quiet, until one is refused, or until `limit` are done.
 pub(crate) fn take_turns(net: &Network, stacks: usize, table: &mut TableMut, limit: u32) -> Ran
     requires { Prepared (network net.now) stacks (table_held table.old) }
-    ensures { Runs (steps (network net.now) limit (table_held table.old)) result (table_held table.new) }
+    ensures { Runs (steps (network net.now) limit (table_held table.old)) result (table_held table.new) × SameSlices table.old table.new }
 {
     let gateways = all_gateways(net, stacks);
     let mut flags = [all_flags(net.n); 32];

@@ -7,3 +7,4 @@ pub mod Walk
 pub mod Rows
 pub mod Deliveries
 pub mod Order
+pub mod Slices

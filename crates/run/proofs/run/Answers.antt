@@ -1,5 +1,6 @@
 -- `run::run` meets its contract.
 use mathlib.Core.Path.{sym}
+use Rattle.std.proofs.Common.{rules}
 use Rattle.network.specs.Handed.{network}
 use Rattle.table.specs.Handed.{table_held}
 use Rattle.table.proofs.Begins.{Ready, is_ready, is_refused}
@@ -17,13 +18,17 @@ take_turns-requires c =
 
 pub returns-in-Ok : goal.returns-in-Ok
 returns-in-Ok c =
-    let a = c.args in
-    run_begun (network a.net.now) a.limit (table_held a.table.now) _ c.in-Ok.stacks c.take_turns.result (right (goal.at.returns-in-Ok c).In-Ok)
-    c.take_turns.ensures
+    let a = c.args in (
+      run_begun (network a.net.now) a.limit (table_held a.table.now) _ c.in-Ok.stacks c.take_turns.result (right (goal.at.returns-in-Ok c).In-Ok)
+          c.take_turns.ensures.0,
+      c.take_turns.ensures.1,
+    )
 
 pub returns-in-Err : goal.returns-in-Err
 returns-in-Err c =
     let a = c.args in
-    let r = c.in-Err.refusal in
-    run_stopped (network a.net.now) a.limit (table_held a.table.now) r
-    (is_refused (network a.net.now) (table_held a.table.now) r (sym c.in-Err.ensures))
+    let r = c.in-Err.refusal in (
+      run_stopped (network a.net.now) a.limit (table_held a.table.now) r
+          (is_refused (network a.net.now) (table_held a.table.now) r (sym c.in-Err.ensures)),
+      search rules,
+    )

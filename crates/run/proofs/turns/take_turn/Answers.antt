@@ -19,9 +19,11 @@ search_flagged-requires c = let q = counts (goal.at.search_flagged-requires c).S
 
 pub returns-in_default : goal.returns-in_default
 returns-in_default c =
-    let a = c.args in
-    turned_quiet (network a.net.now) a.stacks (table_held a.table.now) c.search_flagged.new.flags
-    c.search_flagged.ensures.flagged (sym c.search_flagged.ensures.value ∙ c.in_default.is)
+    let a = c.args in (
+      turned_quiet (network a.net.now) a.stacks (table_held a.table.now) c.search_flagged.new.flags
+          c.search_flagged.ensures.flagged (sym c.search_flagged.ensures.value ∙ c.in_default.is),
+      search rules,
+    )
 
 pub nonzero_div-sender : goal.nonzero_div-sender
 nonzero_div-sender c = (counts (goal.at.nonzero_div-sender c).Start).some
@@ -64,30 +66,36 @@ pub returns-in_err-offers : goal.returns-in_err-offers
 returns-in_err-offers c =
     let a = c.args in
     let r = c.in_err-offers.field-0.0 in
-    let same : c.from_residual.result ≡ Err r = search rules in
-    rw same (turned_step (network a.net.now) (table_held a.table.now) c.in-Some.found (sym c.search_flagged.ensures.value ∙ c.in-Some.is)
-    c.search_flagged.new.flags (Err r) (table_held c.step.new.table) c.search_flagged.new.flags _ c.link-back.result a.stacks c.requires.prepared
-    c.search_flagged.ensures.flagged
-    (equipped (network a.net.now) a.stacks a.gateways.now c.in-Some.found.bit _ c.requires.equipped c.in-Some.ensures.low)
-    c.link-back.ensures c.in_err-offers.ensures refl)
+    let same : c.from_residual.result ≡ Err r = search rules in (
+      rw same (turned_step (network a.net.now) (table_held a.table.now) c.in-Some.found (sym c.search_flagged.ensures.value ∙ c.in-Some.is)
+          c.search_flagged.new.flags (Err r) (table_held c.step.new.table) c.search_flagged.new.flags _ c.link-back.result a.stacks c.requires.prepared
+          c.search_flagged.ensures.flagged
+          (equipped (network a.net.now) a.stacks a.gateways.now c.in-Some.found.bit _ c.requires.equipped c.in-Some.ensures.low)
+          c.link-back.ensures c.in_err-offers.ensures.0 refl),
+      search rules,
+    )
 
 pub returns-then-offers-gt0 : goal.returns-then-offers-gt0
 returns-then-offers-gt0 c =
     let a = c.args in
-    let x = c.in_ok-offers.offers in
-    turned_step (network a.net.now) (table_held a.table.now) c.in-Some.found (sym c.search_flagged.ensures.value ∙ c.in-Some.is)
-    c.search_flagged.new.flags (Ok x) (table_held c.step.new.table) _ _ c.link-back.result a.stacks c.requires.prepared
-    c.search_flagged.ensures.flagged
-    (equipped (network a.net.now) a.stacks a.gateways.now c.in-Some.found.bit _ c.requires.equipped c.in-Some.ensures.low)
-    c.link-back.ensures c.in_ok-offers.ensures
-    (some_took c.search_flagged.new.flags c.in-Some.found.bit _ x c.with_one.result (omega arith) c.with_one.ensures)
+    let x = c.in_ok-offers.offers in (
+      turned_step (network a.net.now) (table_held a.table.now) c.in-Some.found (sym c.search_flagged.ensures.value ∙ c.in-Some.is)
+          c.search_flagged.new.flags (Ok x) (table_held c.step.new.table) _ _ c.link-back.result a.stacks c.requires.prepared
+          c.search_flagged.ensures.flagged
+          (equipped (network a.net.now) a.stacks a.gateways.now c.in-Some.found.bit _ c.requires.equipped c.in-Some.ensures.low)
+          c.link-back.ensures c.in_ok-offers.ensures.0
+          (some_took c.search_flagged.new.flags c.in-Some.found.bit _ x c.with_one.result (omega arith) c.with_one.ensures),
+      search rules,
+    )
 
 pub returns-else-offers-gt0 : goal.returns-else-offers-gt0
 returns-else-offers-gt0 c =
     let a = c.args in
-    let x = c.in_ok-offers.offers in
-    turned_step (network a.net.now) (table_held a.table.now) c.in-Some.found (sym c.search_flagged.ensures.value ∙ c.in-Some.is)
-    c.search_flagged.new.flags (Ok x) (table_held c.step.new.table) c.search_flagged.new.flags _ c.link-back.result a.stacks c.requires.prepared
-    c.search_flagged.ensures.flagged
-    (equipped (network a.net.now) a.stacks a.gateways.now c.in-Some.found.bit _ c.requires.equipped c.in-Some.ensures.low)
-    c.link-back.ensures c.in_ok-offers.ensures (none_took c.search_flagged.new.flags c.in-Some.found.bit _ x (omega arith))
+    let x = c.in_ok-offers.offers in (
+      turned_step (network a.net.now) (table_held a.table.now) c.in-Some.found (sym c.search_flagged.ensures.value ∙ c.in-Some.is)
+          c.search_flagged.new.flags (Ok x) (table_held c.step.new.table) c.search_flagged.new.flags _ c.link-back.result a.stacks c.requires.prepared
+          c.search_flagged.ensures.flagged
+          (equipped (network a.net.now) a.stacks a.gateways.now c.in-Some.found.bit _ c.requires.equipped c.in-Some.ensures.low)
+          c.link-back.ensures c.in_ok-offers.ensures.0 (none_took c.search_flagged.new.flags c.in-Some.found.bit _ x (omega arith)),
+      search rules,
+    )
