@@ -11,9 +11,9 @@ use lib.Pow.{pow_pos, pow_mono}
 use Rattle.bits.specs.Bits.{bit, has, without, lowest}
 use Rattle.bits.proofs.Bits.{bit_high}
 use Rattle.bits.proofs.Laws.{has_of_zero, one_of_has, has_zero, has_without_there, without_le}
-use Rattle.bits.proofs.LowestBit.{lowest_has, lowest_first}
+use Rattle.bits.proofs.LowestBit.{lowest_has, lowest_first, lowest_below}
 use Rattle.words.specs.declared.Found.{Found}
-use Rattle.words.specs.declared.Found.TheVariants.{Nowhere, At}
+use Rattle.std.specs.Prelude.{Option, Some, None}
 use Rattle.words.specs.Words.{first_between}
 use Rattle.words.proofs.Answers.{Here, first_at, first_nowhere}
 use Rattle.run.specs.Flags.{Flagged}
@@ -43,6 +43,13 @@ without_less w v p one =
     let e : bit w v * 2 ^ v ≡ 2 ^ v = ap (λ (b : ℕ). b * 2 ^ v) (one_of_has w v one) ∙ one-mul (2 ^ v) in
     omega (arith, pow_pos v)
 
+-- a word of 32 bits that waits names a receiver below 32
+pub bit_low : (ws : List ℕ) (from to : ℕ) (f : Found) → ((k : ℕ) → get_or ws k 0 < 2 ^ 32) → first_between from to ws ≡ Some f → f.bit < 32
+bit_low ws from to f fit found =
+    let h = first_at ws from to f.word f.bit found in
+    let some : 0 < get_or ws f.word 0 = omega (arith, h.waits) in
+    omega (arith, h.lowest_bit, lowest_below (get_or ws f.word 0) some (fit f.word))
+
 -- ---- the node
 module _ {n s : ℕ} {flags waiting : List ℕ} {u : ℕ} (at : AtNode n s flags waiting u) where
   -- its rows are rows of the table
@@ -60,9 +67,9 @@ module _ {n s : ℕ} {flags waiting : List ℕ} {u : ℕ} (at : AtNode n s flags
           absurd (never (sym on ∙ ap (λ (v : ℕ). has (get_or flags v 0) (i / s % n)) (node_of n s u i l h) ∙ off))
 
   -- with no flag there is nothing
-  pub node_empty : get_or flags u 0 ≡ 0 → Nowhere ≡ first_between (u * (n * s)) (u * (n * s) + n * s) waiting
+  pub node_empty : get_or flags u 0 ≡ 0 → None ≡ first_between (u * (n * s)) (u * (n * s) + n * s) waiting
   node_empty z =
-      first_is waiting (u * (n * s)) (u * (n * s) + n * s) Nowhere node_inside
+      first_is waiting (u * (n * s)) (u * (n * s) + n * s) None node_inside
       (λ k l h. unflagged k l h (ap (λ (w : ℕ). has w (k / s % n)) z ∙ has_zero (k / s % n)))
 
 -- ---- the block of its lowest flag
@@ -84,9 +91,9 @@ module _ {n s : ℕ} {flags waiting : List ℕ} {u d : ℕ} (at : AtFlag n s fla
   block_inside = omega (arith, node_inside at.node, block_end n s u d destination_below)
 
   -- what the block holds is the first of the node: the blocks before it have no flag
-  pub block_found : (f : Found) (i v : ℕ) → f ≡ first_between ((u * n + d) * s) ((u * n + d) * s + s) waiting → f ≡ At i v
-      → At i v ≡ first_between (u * (n * s)) (u * (n * s) + n * s) waiting
-  block_found f i v answer told = first_is waiting (u * (n * s)) (u * (n * s) + n * s) (At i v) (node_inside at.node) (record {
+  pub block_found : (f : Option Found) (x : Found) → f ≡ first_between ((u * n + d) * s) ((u * n + d) * s + s) waiting → f ≡ Some x
+      → Some x ≡ first_between (u * (n * s)) (u * (n * s) + n * s) waiting
+  block_found f x answer told = first_is waiting (u * (n * s)) (u * (n * s) + n * s) (Some x) (node_inside at.node) (record {
     after = omega (arith, here.after, block_start n s u d destination_below);
     before = omega (arith, here.before, block_end n s u d destination_below);
     inside = here.inside;
@@ -95,10 +102,10 @@ module _ {n s : ℕ} {flags waiting : List ℕ} {u d : ℕ} (at : AtFlag n s fla
     quiet = λ k l h. quiet k l h (dec_lt k ((u * n + d) * s));
   })
     where
-      here : Here waiting ((u * n + d) * s) (min ((u * n + d) * s + s) (length waiting)) i v
-      here = first_at waiting ((u * n + d) * s) ((u * n + d) * s + s) i v (sym answer ∙ told)
+      here : Here waiting ((u * n + d) * s) (min ((u * n + d) * s + s) (length waiting)) x.word x.bit
+      here = first_at waiting ((u * n + d) * s) ((u * n + d) * s + s) x.word x.bit (sym answer ∙ told)
 
-      quiet : (k : ℕ) → u * (n * s) ≤ k → k < i → Dec (k < (u * n + d) * s) → get_or waiting k 0 ≡ 0
+      quiet : (k : ℕ) → u * (n * s) ≤ k → k < x.word → Dec (k < (u * n + d) * s) → get_or waiting k 0 ≡ 0
       quiet k l h (no later) = here.quiet k (omega (arith, later)) h
       quiet k l h (yes sooner) =
           let place : k < n * (n * s) = omega (arith, here.inside, at.node.rows) in
@@ -107,7 +114,7 @@ module _ {n s : ℕ} {flags waiting : List ℕ} {u d : ℕ} (at : AtFlag n s fla
           unflagged at.node k l inner (lowest_first (get_or flags u 0) (k / s % n) (omega (arith, at.first)))
 
   -- where it holds nothing its flag can go
-  pub block_empty : (f : Found) → f ≡ first_between ((u * n + d) * s) ((u * n + d) * s + s) waiting → f ≡ Nowhere
+  pub block_empty : (f : Option Found) → f ≡ first_between ((u * n + d) * s) ((u * n + d) * s + s) waiting → f ≡ None
       → Flagged n s (set flags u (without (get_or flags u 0) d)) waiting
   block_empty f answer told =
       flagged_with n s flags waiting waiting u (without (get_or flags u 0) d) at.node.flagged at.node.below

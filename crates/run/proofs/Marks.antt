@@ -14,7 +14,8 @@ use Rattle.lists.proofs.Counts.{how_many_zero}
 use Rattle.bits.proofs.Laws.{without_le}
 use Rattle.network.specs.Network.{Network, stacks}
 use Rattle.hear.specs.Hearing.{takes, taken}
-use Rattle.table.specs.Table.{Table, Sized, rows_all, place, vertex, node_at, destination_at, number_at, rows_at, gateway, message, cleared, delivered, offers_taken}
+use Rattle.table.specs.Table.{Table, Sized, rows_all, place, vertex, node_at, destination_at, number_at, rows_at}
+use Rattle.table.specs.Table.{gateway, message, cleared, delivered, offers_taken}
 use Rattle.table.specs.Answers.{message_refusal}
 use Rattle.run.specs.Flags.{Flagged}
 use Rattle.run.specs.Turns.{flags_after}

@@ -1,15 +1,16 @@
 -- One turn of a run, as a private function answers it; no public contract cites it.
-use Rattle.std.specs.Prelude.{ℕ, ◌+◌, ◌*◌, ◌<◌, ◌≤◌, ◌≡◌, List, [], cond, get_or, set, ltb}
+use Rattle.std.specs.Prelude.{ℕ, ◌+◌, ◌*◌, ◌≤◌, ◌≡◌, List, cond, get_or, set, ltb, Result, Ok, Err, Option, Some, None}
+use Rattle.lists.specs.Lists.{tabulate}
 use Rattle.bits.specs.Bits.{with_one}
 use Rattle.words.specs.Words.{first_in}
 use Rattle.words.specs.declared.Found.{Found}
+use Rattle.refusal.specs.declared.Refusal.{Refusal}
 use Rattle.network.specs.Network.{Network, stacks, refusal_of}
 use Rattle.table.specs.Table.{Table, Sized, node_at, destination_at, number_at}
 use Rattle.table.specs.Run.{RunOutcome}
-use Rattle.table.specs.declared.Delivered.{Delivered}
-use Rattle.step.specs.InNetwork.{Equipped, step_answer, step_table}
+use Rattle.hear.specs.declared.Gateway.{Gateway}
+use Rattle.step.specs.InNetwork.{gateway_at, step_answer, step_table}
 use Rattle.run.specs.Flags.{Flagged}
-use Rattle.run.specs.declared.turns.Turn.{Turn}
 
 -- what the turns may count on, since `ready` tested it: the network is right, has s stacks, and its table the right lengths
 pub record Prepared (net : Network) (s : ℕ) (t : Table) : Type 0 where
@@ -25,24 +26,28 @@ pub record Countable (n s waits : ℕ) : Type 0 where
   pub some : 1 ≤ s
   pub low : s ≤ 16384
 
--- the neighbours and the grids of every node
-pub record AllEquipped (net : Network) (near : List ℕ) (converts wraps unwraps : List (List (List ℕ))) : Type 0 where
-  pub each : (U : ℕ) → U < net.n → Equipped net U (get_or near U 0) (get_or converts U []) (get_or wraps U []) (get_or unwraps U [])
+-- the gateways are the nodes of the network, each as the one that hears
+abbrev pub AllEquipped : Network → ℕ → List Gateway → Type 0
+AllEquipped net s gateways = gateways ≡ tabulate 32 (gateway_at net s)
+
+-- what a turn did: how many rows took an offer; None where no message waits; or why the delivery is refused
+abbrev pub Turn : Type 0
+Turn = Result (Option ℕ) Refusal
 
 -- the delivery's answer as the turn's
-abbrev pub turn_of : Delivered → Turn
-turn_of (Delivered.Rows offers) = Turn.Offers offers
-turn_of (Delivered.Refused refusal) = Turn.Ends refusal
+abbrev pub turn_of : Result ℕ Refusal → Turn
+turn_of (Ok offers) = Ok (Some offers)
+turn_of (Err r) = Err r
 
 module _ (net : Network) (t : Table) where
   -- what the turn finds, and the table after it
-  abbrev pub turn_at : Found → Turn
-  turn_at Found.Nowhere = Turn.Ends 0
-  turn_at (Found.At i U) = turn_of (step_answer net t (node_at net i) U (destination_at net i) (number_at net i))
+  abbrev pub turn_at : Option Found → Turn
+  turn_at None = Ok None
+  turn_at (Some f) = turn_of (step_answer net t (node_at net f.word) f.bit (destination_at net f.word) (number_at net f.word))
 
-  abbrev pub table_at : Found → Table
-  table_at Found.Nowhere = t
-  table_at (Found.At i U) = step_table net t (node_at net i) U (destination_at net i) (number_at net i)
+  abbrev pub table_at : Option Found → Table
+  table_at None = t
+  table_at (Some f) = step_table net t (node_at net f.word) f.bit (destination_at net f.word) (number_at net f.word)
 
   abbrev pub turn_answer : Turn
   turn_answer = turn_at (first_in t.waiting)

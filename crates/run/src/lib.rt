@@ -1,50 +1,28 @@
 // A run of deliveries. Total: the contract is an equation with definitions of crate table.
 #![tactic(auto)]
 
-ghost use Rattle.network.specs.Network.{network_of};
-ghost use Rattle.table.specs.Table.{table_of};
+ghost use Rattle.network.specs.Handed.{network};
+ghost use Rattle.table.specs.Handed.{table_held};
 ghost use Rattle.table.specs.Run.{Runs, run_of};
 
 mod search;
 mod turns;
 
-use network::Checked;
-use table::Ran;
+use network::Network;
 use table::ready::ready;
+use table::{Ran, TableMut};
 use turns::take_turns;
 
 // Delivers the first waiting message, again and again, until none waits, a delivery is refused, or `limit` are done.
-pub fn run(
-    n: usize,
-    p: usize,
-    h: usize,
-    links: &[u16],
-    functions: &[u16],
-    cost: &mut [u32],
-    way: &mut [u16],
-    waiting: &mut [u32],
-    limit: u32,
-) -> Ran
-    ensures { Runs (run_of (network_of n p h links.now functions.now) limit (table_of cost.old way.old waiting.old))
-        result (table_of cost.new way.new waiting.new) }
+pub fn run(net: &Network, table: &mut TableMut, limit: u32) -> Ran
+    ensures { Runs (run_of (network net.now) limit (table_held table.old)) result (table_held table.new) }
 {
-    match ready(
-        n,
-        p,
-        h,
-        links,
-        functions,
-        cost.len(),
-        way.len(),
-        waiting.len(),
-    ) {
-        Checked::Stacks(stacks) => take_turns(
-            n, p, h, stacks, links, functions, cost, way, waiting, limit,
-        ),
-        Checked::Refused(refusal) => Ran {
+    match ready(net, table.cost.len(), table.way.len(), table.waiting.len()) {
+        Ok(stacks) => take_turns(net, stacks, table, limit),
+        Err(refusal) => Ran {
             done: 0,
             offers: 0,
-            refused: refusal,
+            refused: Some(refusal),
         },
     }
 }

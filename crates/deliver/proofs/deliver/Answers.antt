@@ -21,5 +21,7 @@ returns c =
     let a = c.args in
     let m = a.message in
     let s = c.in_ok-stacks.stacks in
-    delivers (network a.net.now) (table_held a.table.now) m.sender m.receiver m.destination m.number s c.link-back.result c.gateway_at-gateway.result c.step.result
-    _ (is_ready (network a.net.now) (table_held a.table.now) s (sym c.in_ok-stacks.ensures)) c.link-back.ensures c.gateway_at-gateway.ensures c.step.ensures
+    let g = c.gateway_at-gateway in
+    let x = c.step in
+    delivers (network a.net.now) (table_held a.table.now) m.sender m.receiver m.destination m.number s c.link-back.result g.result x.result _
+    (is_ready (network a.net.now) (table_held a.table.now) s (sym c.in_ok-stacks.ensures)) c.link-back.ensures g.ensures x.ensures

@@ -9,7 +9,7 @@ use Rattle.table.proofs.Walk.{at_start, node_passed, all_passed}
 use Rattle.run.proofs.search.search_flagged.Goals as goal
 use Rattle.run.proofs.search.search_flagged.Goals.{In-loop-node}
 
-inside : (c : In-loop-node) → ((c.loop-node.node * (c.args.n * c.args.stacks)) + c.args.n * c.args.stacks) ≤ length c.args.waiting.now
+inside : (c : In-loop-node) → ((c.loop-node.node * (c.args.n * c.args.stacks)) + c.args.n * c.args.stacks) ≤ length c.args.table.now.waiting.now
 inside c =
     let a = c.args in
     omega (arith, c.requires.1, block_fits (a.n * a.stacks) c.loop-node.node a.n c.loop-node-test.true)
@@ -17,10 +17,11 @@ inside c =
 pub loop-node-init : goal.loop-node-init
 loop-node-init c = (at_start _ _, c.requires.2)
 
-pub returns-in-At : goal.returns-in-At
-returns-in-At c = record {
+pub returns-in-Some : goal.returns-in-Some
+returns-in-Some c = record {
   value = part_found _ (c.loop-node.node * (c.args.n * c.args.stacks)) ((c.loop-node.node * (c.args.n * c.args.stacks)) + c.args.n * c.args.stacks)
-      c.loop-node.invariant.0 (inside (goal.at.returns-in-At c).In-loop-node) _ _ _ c.search_node.ensures.value c.in-At.is;
+      c.loop-node.invariant.0 (inside (goal.at.returns-in-Some c).In-loop-node) _ _ _ c.search_node.ensures.value c.in-Some.is;
+  low = c.in-Some.ensures.low;
   flagged = c.search_node.ensures.flagged;
 }
 
@@ -34,4 +35,4 @@ loop-node-preserved c =
 pub returns : goal.returns
 returns c =
     let l = c.loop-node in
-    record { value = all_passed _ c.args.n _ l.node c.requires.1 l.auto.node-end c.loop-node-test.false l.invariant.0; flagged = l.invariant.1 }
+    record { value = all_passed _ c.args.n _ l.node c.requires.1 l.auto.node-end c.loop-node-test.false l.invariant.0; low = tt; flagged = l.invariant.1 }

@@ -8,7 +8,7 @@ use lib.Seq.{get_or-set_same}
 use Rattle.bits.specs.Bits.{without, lowest}
 use Rattle.run.specs.Flags.{Flagged}
 use Rattle.table.proofs.Places.{few_blocks}
-use Rattle.run.proofs.Blocks.{AtNode, AtFlag, node_empty, destination_below, block_inside, block_found, block_empty, flag_falls}
+use Rattle.run.proofs.Blocks.{AtNode, AtFlag, node_empty, destination_below, block_inside, block_found, block_empty, flag_falls, bit_low}
 use Rattle.run.proofs.search.search_node.Goals as goal
 use Rattle.run.proofs.search.search_node.Goals.{After-lowest-destination, After-without-left, At-loop-left}
 
@@ -49,10 +49,11 @@ overflow_mul-from-in-loop-left c = omega (arith, block_inside (at_flag (goal.at.
 pub overflow_add-from-in-loop-left : goal.overflow_add-from-in-loop-left
 overflow_add-from-in-loop-left c = omega (arith, block_inside (at_flag (goal.at.overflow_add-from-in-loop-left c).After-lowest-destination))
 
-pub returns-in-At : goal.returns-in-At
-returns-in-At c =
+pub returns-in-Some : goal.returns-in-Some
+returns-in-Some c =
     record {
-      value = block_found (at_flag (goal.at.returns-in-At c).After-lowest-destination) _ _ _ c.first_in.ensures c.in-At.is;
+      value = block_found (at_flag (goal.at.returns-in-Some c).After-lowest-destination) _ _ c.first_in.ensures c.in-Some.is;
+      low = bit_low _ _ _ _ (λ k. (c.type_inv.waiting k).fits) (sym c.first_in.ensures ∙ c.in-Some.is);
       flagged = c.loop-left.invariant.1;
     }
 
@@ -82,5 +83,6 @@ loop-left-preserved c =
 pub returns : goal.returns
 returns c = record {
   value = node_empty (at-node (goal.at.returns c).At-loop-left) (sym c.loop-left.invariant.0 ∙ c.loop-left-test.false);
+  low = tt;
   flagged = c.loop-left.invariant.1;
 }

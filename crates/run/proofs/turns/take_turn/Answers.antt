@@ -1,78 +1,93 @@
 -- `run::turns::take_turn` meets its contract: a law of proofs/Turning.antt for each thing that the search may find.
-use Prim.Native.Nat.{◌<◌}
-use mathlib.Core.Path.{sym, ◌∙◌}
+use mathlib.Core.Path.{◌≡◌, refl, sym, ◌∙◌}
 use native.Mathlib.Nat.{mod-lt}
 use native.Mathlib.Omega.{arith}
-use Rattle.network.specs.Network.{network_of}
-use Rattle.table.specs.Table.{table_of}
-use Rattle.run.proofs.Turning.{turned_quiet, turned_step, bit_low}
+use lib.ListN.{length}
+use Rattle.std.proofs.Common.{rules, Ok, Err}
+use Rattle.network.specs.Handed.{network}
+use Rattle.table.specs.Handed.{table_held}
+use Rattle.run.specs.Turns.{Countable}
+use Rattle.run.proofs.Turning.{some_took, none_took, turned_quiet, turned_step, equipped, countable}
 use Rattle.run.proofs.turns.take_turn.Goals as goal
-use Rattle.run.proofs.turns.take_turn.Goals.{In-At}
+use Rattle.run.proofs.turns.take_turn.Goals.{Start}
 
--- the receiver is the number of a bit of a word that waits
-low : (c : In-At) → c.in-At.receiver < 32
-low c = bit_low c.args.waiting.now c.in-At.at c.in-At.receiver (λ k. (c.slice_known-3-1.given k).fits) (sym c.search_flagged.ensures.value ∙ c.in-At.is)
+counts : (c : Start) → let a = c.args in Countable a.net.now.n a.stacks (length a.table.now.waiting.now)
+counts c = let a = c.args in countable (network a.net.now) a.stacks (table_held a.table.now) c.requires.prepared
 
 pub search_flagged-requires : goal.search_flagged-requires
-search_flagged-requires c = let q = c.requires in (q.countable.few, q.countable.long, q.flagged)
+search_flagged-requires c = let q = counts (goal.at.search_flagged-requires c).Start in (q.few, q.long, c.requires.flagged)
+
+pub returns-in_default : goal.returns-in_default
+returns-in_default c =
+    let a = c.args in
+    turned_quiet (network a.net.now) a.stacks (table_held a.table.now) c.search_flagged.new.flags
+    c.search_flagged.ensures.flagged (sym c.search_flagged.ensures.value ∙ c.in_default.is)
 
 pub nonzero_div-sender : goal.nonzero_div-sender
-nonzero_div-sender c = c.requires.countable.some
+nonzero_div-sender c = (counts (goal.at.nonzero_div-sender c).Start).some
 
-pub nonzero_div-sender-in-At : goal.nonzero_div-sender-in-At
-nonzero_div-sender-in-At c = c.requires.countable.nodes
+pub nonzero_div-sender-2 : goal.nonzero_div-sender-2
+nonzero_div-sender-2 c = (counts (goal.at.nonzero_div-sender-2 c).Start).nodes
 
 pub nonzero_div-destination : goal.nonzero_div-destination
-nonzero_div-destination c = c.requires.countable.some
+nonzero_div-destination c = (counts (goal.at.nonzero_div-destination c).Start).some
 
 pub nonzero_rem-destination : goal.nonzero_rem-destination
-nonzero_rem-destination c = c.requires.countable.nodes
+nonzero_rem-destination c = (counts (goal.at.nonzero_rem-destination c).Start).nodes
 
 pub nonzero_rem-number : goal.nonzero_rem-number
-nonzero_rem-number c = c.requires.countable.some
+nonzero_rem-number c = (counts (goal.at.nonzero_rem-number c).Start).some
 
 pub overflow_add-number : goal.overflow_add-number
-overflow_add-number c = let q = c.requires.countable in omega (arith, q.low, mod-lt c.in-At.at q.some)
+overflow_add-number c = let q = counts (goal.at.overflow_add-number c).Start in omega (arith, q.low, mod-lt c.in-Some.found.word q.some)
 
-pub offset_bounds-neighbours-receiver : goal.offset_bounds-neighbours-receiver
-offset_bounds-neighbours-receiver c = omega (arith, low (goal.at.offset_bounds-neighbours-receiver c).In-At)
+pub offset_bounds-gateways-receiver : goal.offset_bounds-gateways-receiver
+offset_bounds-gateways-receiver c = omega (arith, c.in-Some.ensures.low)
 
-pub bounds-neighbours-receiver : goal.bounds-neighbours-receiver
-bounds-neighbours-receiver c = omega (arith, low (goal.at.bounds-neighbours-receiver c).In-At)
+pub bounds-gateways-receiver : goal.bounds-gateways-receiver
+bounds-gateways-receiver c = c.in-Some.ensures.low
 
-pub offset_bounds-converts-receiver : goal.offset_bounds-converts-receiver
-offset_bounds-converts-receiver c = omega (arith, low (goal.at.offset_bounds-converts-receiver c).In-At)
+pub offset_bounds-flags-receiver : goal.offset_bounds-flags-receiver
+offset_bounds-flags-receiver c = omega (arith, c.in-Some.ensures.low)
 
-pub bounds-converts-receiver : goal.bounds-converts-receiver
-bounds-converts-receiver c = omega (arith, low (goal.at.bounds-converts-receiver c).In-At)
+pub bounds-flags-receiver : goal.bounds-flags-receiver
+bounds-flags-receiver c = omega (arith, c.in-Some.ensures.low, c.search_flagged.ensures.flagged.long)
 
-pub offset_bounds-wraps-receiver : goal.offset_bounds-wraps-receiver
-offset_bounds-wraps-receiver c = omega (arith, low (goal.at.offset_bounds-wraps-receiver c).In-At)
+pub offset_bounds-flags-receiver-then-offers-gt0 : goal.offset_bounds-flags-receiver-then-offers-gt0
+offset_bounds-flags-receiver-then-offers-gt0 c = omega (arith, c.in-Some.ensures.low)
 
-pub bounds-wraps-receiver : goal.bounds-wraps-receiver
-bounds-wraps-receiver c = omega (arith, low (goal.at.bounds-wraps-receiver c).In-At)
+pub bounds-flags-receiver-then-offers-gt0 : goal.bounds-flags-receiver-then-offers-gt0
+bounds-flags-receiver-then-offers-gt0 c =
+    omega (arith, c.in-Some.ensures.low, c.search_flagged.ensures.flagged.long)
 
-pub offset_bounds-unwraps-receiver : goal.offset_bounds-unwraps-receiver
-offset_bounds-unwraps-receiver c = omega (arith, low (goal.at.offset_bounds-unwraps-receiver c).In-At)
-
-pub bounds-unwraps-receiver : goal.bounds-unwraps-receiver
-bounds-unwraps-receiver c = omega (arith, low (goal.at.bounds-unwraps-receiver c).In-At)
-
-pub turn_of-requires : goal.turn_of-requires
-turn_of-requires c = omega (arith, low (goal.at.turn_of-requires c).In-At, c.search_flagged.ensures.flagged.long)
-
-pub returns-in-At : goal.returns-in-At
-returns-in-At c h functions w own =
+pub returns-in_err-offers : goal.returns-in_err-offers
+returns-in_err-offers c =
     let a = c.args in
-    let x = c.step-answer in
-    let at = c.in-At.at in
-    turned_step (network_of a.n a.p h a.links.now functions) (table_of a.cost.now a.way.now a.waiting.now) at c.in-At.receiver
-    (sym c.search_flagged.ensures.value ∙ c.in-At.is) c.search_flagged.new.flags
-    a.neighbours.now a.converts.now a.wraps.now a.unwraps.now own x.result (table_of x.new.cost x.new.way x.new.waiting) c.turn_of.new.flags c.link_cost.result
-    a.stacks c.turn_of.result c.turn_of.ensures.0 w c.search_flagged.ensures.flagged c.link_cost.ensures x.ensures c.turn_of.ensures.1
+    let r = c.in_err-offers.field-0.0 in
+    let same : c.from_residual.result ≡ Err r = search rules in
+    rw same (turned_step (network a.net.now) (table_held a.table.now) c.in-Some.found (sym c.search_flagged.ensures.value ∙ c.in-Some.is)
+    c.search_flagged.new.flags (Err r) (table_held c.step.new.table) c.search_flagged.new.flags _ c.link-back.result a.stacks c.requires.prepared
+    c.search_flagged.ensures.flagged
+    (equipped (network a.net.now) a.stacks a.gateways.now c.in-Some.found.bit _ c.requires.equipped c.in-Some.ensures.low)
+    c.link-back.ensures c.in_err-offers.ensures refl)
 
-pub returns-in-Nowhere : goal.returns-in-Nowhere
-returns-in-Nowhere c h functions w own =
+pub returns-then-offers-gt0 : goal.returns-then-offers-gt0
+returns-then-offers-gt0 c =
     let a = c.args in
-    turned_quiet (network_of a.n a.p h a.links.now functions) a.stacks (table_of a.cost.now a.way.now a.waiting.now) c.search_flagged.new.flags
-    c.search_flagged.ensures.flagged (sym c.search_flagged.ensures.value ∙ c.in-Nowhere.is)
+    let x = c.in_ok-offers.offers in
+    turned_step (network a.net.now) (table_held a.table.now) c.in-Some.found (sym c.search_flagged.ensures.value ∙ c.in-Some.is)
+    c.search_flagged.new.flags (Ok x) (table_held c.step.new.table) _ _ c.link-back.result a.stacks c.requires.prepared
+    c.search_flagged.ensures.flagged
+    (equipped (network a.net.now) a.stacks a.gateways.now c.in-Some.found.bit _ c.requires.equipped c.in-Some.ensures.low)
+    c.link-back.ensures c.in_ok-offers.ensures
+    (some_took c.search_flagged.new.flags c.in-Some.found.bit _ x c.with_one.result (omega arith) c.with_one.ensures)
+
+pub returns-else-offers-gt0 : goal.returns-else-offers-gt0
+returns-else-offers-gt0 c =
+    let a = c.args in
+    let x = c.in_ok-offers.offers in
+    turned_step (network a.net.now) (table_held a.table.now) c.in-Some.found (sym c.search_flagged.ensures.value ∙ c.in-Some.is)
+    c.search_flagged.new.flags (Ok x) (table_held c.step.new.table) c.search_flagged.new.flags _ c.link-back.result a.stacks c.requires.prepared
+    c.search_flagged.ensures.flagged
+    (equipped (network a.net.now) a.stacks a.gateways.now c.in-Some.found.bit _ c.requires.equipped c.in-Some.ensures.low)
+    c.link-back.ensures c.in_ok-offers.ensures (none_took c.search_flagged.new.flags c.in-Some.found.bit _ x (omega arith))

@@ -1,112 +1,61 @@
 -- `run::turns::take_turns` meets its contract: each turn is a turn of the run, and the flags stay right.
-use Prim.Native.Nat.{◌+◌, ◌≤◌}
-use mathlib.Core.Path.{refl}
+use Prim.Native.Nat.{◌+◌}
+use mathlib.Core.Path.{refl, ap, ◌∙◌}
 use native.Mathlib.Omega.{arith}
-use Rattle.network.specs.Network.{network_of}
+use Rattle.std.specs.Prelude.{Some, None, Ok}
+use Rattle.network.specs.Handed.{network}
 use Rattle.network.proofs.Laws.{valid}
-use Rattle.table.specs.Table.{table_of}
-use Rattle.run.specs.Turns.{Turned}
+use Rattle.table.specs.Handed.{table_held}
 use Rattle.run.proofs.Turning.{countable}
-use Rattle.run.proofs.Keeping.{Keeps, keeps_first, keeps_on, still_prepared, ran_ends, ran_out, flags_set}
+use Rattle.run.proofs.Keeping.{Keeps, keeps_first, keeps_on, ran_ends, ran_out, flags_set}
 use Rattle.run.proofs.turns.take_turns.Goals as goal
-use Rattle.run.proofs.turns.take_turns.Goals.{After-take_turn, In-Offers, Start}
-
--- what a turn does
-turned : (c : After-take_turn) → let a = c.args in Turned (network_of a.n a.p a.h a.links.now a.functions.now) c.args.stacks
-    (table_of c.loop-done.cost c.loop-done.way c.loop-done.waiting) c.take_turn.result (table_of c.take_turn.new.cost c.take_turn.new.way
-    c.take_turn.new.waiting) c.take_turn.new.flags
-turned c =
-    let a = c.args in
-    c.take_turn.ensures a.h a.functions.now (still_prepared (network_of a.n a.p a.h a.links.now a.functions.now) a.stacks a.limit
-    (table_of a.cost.now a.way.now a.waiting.now) c.loop-done.done c.loop-done.offers (table_of c.loop-done.cost c.loop-done.way c.loop-done.waiting)
-    c.loop-done.flags c.requires c.loop-done.invariant)
-    (record {
-      each = λ U low. record {
-        near_are = c.all_neighbours-neighbours.ensures U low;
-        converts = c.all_grids-converts.ensures U low;
-        wraps = c.all_grids-wraps.ensures U low;
-        unwraps = c.all_grids-unwraps.ensures U low;
-      };
-    })
+use Rattle.run.proofs.turns.take_turns.Goals.{In-Ok-Some}
 
 -- what the loop keeps after a turn that made offers
-next : (c : In-Offers) → let a = c.args in
-    Keeps (network_of a.n a.p a.h a.links.now a.functions.now) a.stacks a.limit (table_of a.cost.now a.way.now a.waiting.now) (c.loop-done.done + 1)
-    (c.loop-done.offers + c.in-Offers.taken) (table_of c.take_turn.new.cost c.take_turn.new.way c.take_turn.new.waiting) c.take_turn.new.flags
+next : (c : In-Ok-Some) → let a = c.args in let l = c.loop-done in let x = c.take_turn.new in
+    Keeps (network a.net.now) a.stacks a.limit (table_held a.table.now) (l.done + 1) (l.offers + c.in-Ok-Some.taken) (table_held x.table) x.flags
 next c =
     let a = c.args in
+    let l = c.loop-done in
     let x = c.take_turn in
-    keeps_on (network_of a.n a.p a.h a.links.now a.functions.now) a.stacks a.limit (table_of a.cost.now a.way.now a.waiting.now) c.loop-done.done
-    c.loop-done.offers c.in-Offers.taken (table_of c.loop-done.cost c.loop-done.way c.loop-done.waiting)
-    (table_of c.take_turn.new.cost c.take_turn.new.way c.take_turn.new.waiting) c.loop-done.flags x.new.flags x.result
-    c.requires.network (omega arith) c.loop-done.invariant (let a = c.args in c.take_turn.ensures a.h a.functions.now
-    (still_prepared (network_of a.n a.p a.h a.links.now a.functions.now) a.stacks a.limit (table_of a.cost.now a.way.now a.waiting.now) c.loop-done.done
-    c.loop-done.offers (table_of c.loop-done.cost c.loop-done.way c.loop-done.waiting) c.loop-done.flags c.requires c.loop-done.invariant)
-    (record {
-      each = λ U low. record {
-        near_are = c.all_neighbours-neighbours.ensures U low;
-        converts = c.all_grids-converts.ensures U low;
-        wraps =
-            c.all_grids-wraps.ensures U low;
-        unwraps = c.all_grids-unwraps.ensures U low;
-      };
-    })) c.in-Offers.is x.auto.cost x.auto.way x.auto.waiting
-
-few-nodes : (c : Start) → c.args.n ≤ 32
-few-nodes c = let a = c.args in (valid (network_of a.n a.p a.h a.links.now a.functions.now) c.requires.network).few
-
-pub all_neighbours-neighbours-requires : goal.all_neighbours-neighbours-requires
-all_neighbours-neighbours-requires c = few-nodes (goal.at.all_neighbours-neighbours-requires c).Start
-
-pub all_grids-converts-requires : goal.all_grids-converts-requires
-all_grids-converts-requires c = few-nodes (goal.at.all_grids-converts-requires c).Start
-
-pub all_grids-wraps-requires : goal.all_grids-wraps-requires
-all_grids-wraps-requires c = few-nodes (goal.at.all_grids-wraps-requires c).Start
-
-pub all_grids-unwraps-requires : goal.all_grids-unwraps-requires
-all_grids-unwraps-requires c = few-nodes (goal.at.all_grids-unwraps-requires c).Start
+    keeps_on (network a.net.now) a.stacks a.limit (table_held a.table.now) l.done l.offers c.in-Ok-Some.taken (table_held l.table) (table_held x.new.table)
+    l.flags x.new.flags x.result c.requires.network (omega arith) l.invariant x.ensures (c.in-Ok-Some.is ∙ ap Ok c.in-Ok-Some.field-0-is)
 
 pub all_flags-flags-requires : goal.all_flags-flags-requires
-all_flags-flags-requires c = few-nodes (goal.at.all_flags-flags-requires c).Start
+all_flags-flags-requires c = (valid (network c.args.net.now) c.requires.network).few
 
 pub loop-done-init : goal.loop-done-init
 loop-done-init c =
     let a = c.args in
-    let w = valid (network_of a.n a.p a.h a.links.now a.functions.now) c.requires.network in
-    keeps_first (network_of a.n a.p a.h a.links.now a.functions.now) a.stacks a.limit (table_of a.cost.now a.way.now a.waiting.now) _
-    (flags_set a.n a.stacks c.all_flags-flags.result _ a.waiting.now w.few w.nodes c.all_flags-flags.ensures refl
-    (countable (network_of a.n a.p a.h a.links.now a.functions.now) a.stacks (table_of a.cost.now a.way.now a.waiting.now) c.requires).long)
-
-pub take_turn-requires : goal.take_turn-requires
-take_turn-requires c =
-    let a = c.args in
-    let i = c.loop-done in
-    record {
-      countable = countable (network_of a.n a.p a.h a.links.now a.functions.now) a.stacks (table_of c.loop-done.cost c.loop-done.way
-          c.loop-done.waiting) (still_prepared (network_of a.n a.p a.h a.links.now a.functions.now) a.stacks a.limit
-          (table_of a.cost.now a.way.now a.waiting.now) i.done i.offers (table_of c.loop-done.cost c.loop-done.way c.loop-done.waiting) i.flags c.requires
-          i.invariant);
-      flagged = i.invariant.flagged;
-    }
+    let w = valid (network a.net.now) c.requires.network in
+    keeps_first (network a.net.now) a.stacks a.limit (table_held a.table.now) _ c.requires.sized
+    (flags_set a.net.now.n a.stacks c.all_flags-flags.result _ a.table.now.waiting.now w.few w.nodes c.all_flags-flags.ensures refl
+    (countable (network a.net.now) a.stacks (table_held a.table.now) c.requires).long)
 
 pub overflow_add-offers : goal.overflow_add-offers
-overflow_add-offers c = omega (arith, (next (goal.at.overflow_add-offers c).In-Offers).few)
+overflow_add-offers c = omega (arith, (next (goal.at.overflow_add-offers c).In-Ok-Some).few)
 
-pub returns-in-Ends : goal.returns-in-Ends
-returns-in-Ends c =
+pub returns-in-Ok-None : goal.returns-in-Ok-None
+returns-in-Ok-None c =
     let a = c.args in
+    let l = c.loop-done in
     let x = c.take_turn in
-    ran_ends (network_of a.n a.p a.h a.links.now a.functions.now) a.stacks a.limit (table_of a.cost.now a.way.now a.waiting.now) c.loop-done.done
-    c.loop-done.offers c.in-Ends.refusal (table_of c.loop-done.cost c.loop-done.way c.loop-done.waiting)
-    (table_of c.take_turn.new.cost c.take_turn.new.way c.take_turn.new.waiting) c.loop-done.flags x.new.flags x.result
-    (omega arith) c.loop-done.invariant (turned (goal.at.returns-in-Ends c).After-take_turn) c.in-Ends.is
+    ran_ends (network a.net.now) a.stacks a.limit (table_held a.table.now) l.done l.offers None (table_held l.table) (table_held x.new.table)
+    l.flags x.new.flags x.result (omega arith) l.invariant x.ensures (c.in-Ok-None.is ∙ ap Ok c.in-Ok-None.field-0-is)
+
+pub returns-in-Err : goal.returns-in-Err
+returns-in-Err c =
+    let a = c.args in
+    let l = c.loop-done in
+    let x = c.take_turn in
+    ran_ends (network a.net.now) a.stacks a.limit (table_held a.table.now) l.done l.offers (Some c.in-Err.refusal) (table_held l.table)
+    (table_held x.new.table) l.flags x.new.flags x.result (omega arith) l.invariant x.ensures c.in-Err.is
 
 pub loop-done-preserved : goal.loop-done-preserved
-loop-done-preserved c = next (goal.at.loop-done-preserved c).In-Offers
+loop-done-preserved c = next (goal.at.loop-done-preserved c).In-Ok-Some
 
 pub returns : goal.returns
 returns c =
     let a = c.args in
-    ran_out (network_of a.n a.p a.h a.links.now a.functions.now) a.stacks a.limit (table_of a.cost.now a.way.now a.waiting.now) c.loop-done.done
-    c.loop-done.offers (table_of c.loop-done.cost c.loop-done.way c.loop-done.waiting) c.loop-done.flags (omega arith) c.loop-done.invariant
+    ran_out (network a.net.now) a.stacks a.limit (table_held a.table.now) c.loop-done.done c.loop-done.offers (table_held c.loop-done.table)
+    c.loop-done.flags (omega arith) c.loop-done.invariant

@@ -1,9 +1,7 @@
-use Rattle.network.specs.Network.{network_of}
-use Rattle.table.specs.Table.{table_of}
+use Rattle.network.specs.Handed.{network}
+use Rattle.table.specs.Handed.{table_held}
 use Rattle.run.proofs.Keeping.{Keeps}
 use Rattle.run.proofs.turns.take_turns.Given as goal
 
 abbrev pub invariant-loop-done : goal.invariant-loop-done
-invariant-loop-done l =
-    Keeps (network_of l.n l.p l.h l.links l.functions) l.stacks l.limit (table_of l.initial.cost l.initial.way l.initial.waiting) l.done l.offers
-    (table_of l.cost l.way l.waiting) l.flags
+invariant-loop-done l = Keeps (network l.net) l.stacks l.limit (table_held l.initial.table) l.done l.offers (table_held l.table) l.flags
