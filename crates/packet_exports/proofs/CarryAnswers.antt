@@ -7,12 +7,15 @@ use mathlib.Core.Bool.{Bool, true, false, cond, ◌&&◌}
 use lib.ListN.{length}
 use lib.Dec.{leb, eqb}
 use borrow.Author.Tests.{le-leb}
+use Rattle.std.specs.Prelude.{Result, Ok, Err}
+use Rattle.refusal.specs.declared.Refusal.{Refusal}
+use Rattle.refusal.proofs.Named.{few_kept}
 use Rattle.stacks.specs.Stacks.{number}
 use Rattle.network.specs.Network.{Network}
 use Rattle.table.specs.Table.{Table, no_row, home}
 use Rattle.table.specs.Answers.{refusal}
 use Rattle.packet.specs.Packet.{ok_packet}
-use Rattle.forward.specs.Forward.{cost_of, next_of, function_of, result_of, ok_row, look_at}
+use Rattle.forward.specs.Forward.{forward, cost_of, next_of, function_of, result_of, ok_row, look_at}
 use Rattle.forward.specs.Answers.{look_refusal}
 use Rattle.forward.specs.declared.Look.{Look}
 use Rattle.carry.specs.Carry.{Journey, stop, onward, journey, carry_of}
@@ -26,19 +29,19 @@ module _ (net : Network) (t : Table) (D : ℕ) where
   unfolding look_at
   look_few U N = go (home net U D N) (eqb (cost_of net t U D N) no_row) (ok_row net t U D N)
     where
-      go : (a b c : Bool) → look_refusal (cond a Look.Delivered (cond b (Look.Refused 6)
-          (cond c (Look.Forward (next_of net t U D N) (function_of net t U D N) (result_of net t U D N) (cost_of net t U D N)) (Look.Refused 7)))) ≤ 7
+      go : (a b c : Bool) → look_refusal (cond a (Ok Look.Delivered) (cond b (Err Refusal.NoRoute)
+          (cond c (forward (next_of net t U D N) (function_of net t U D N) (result_of net t U D N) (cost_of net t U D N)) (Err Refusal.Broken)))) ≤ 7
       go true b c = omega arith
       go false true c = omega arith
       go false false true = omega arith
       go false false false = omega arith
 
-  onward_few : (left : ℕ) (rest : ℕ → ℕ → Journey) → ((W M : ℕ) → (rest W M).refused ≤ 8) → (U N : ℕ) (l : Look) → look_refusal l ≤ 7
+  onward_few : (left : ℕ) (rest : ℕ → ℕ → Journey) → ((W M : ℕ) → (rest W M).refused ≤ 8) → (U N : ℕ) (l : Result Look Refusal) → look_refusal l ≤ 7
       → (onward net t D left rest U N l).refused ≤ 8
-  onward_few left rest few U N Look.Delivered h = omega arith
-  onward_few left rest few U N (Look.Refused r) h = omega arith
-  onward_few zero rest few U N (Look.Forward W f M c) h = omega arith
-  onward_few (suc left) rest few U N (Look.Forward W f M c) h = few W M
+  onward_few left rest few U N (Ok Look.Delivered) h = omega arith
+  onward_few left rest few U N (Err r) h = omega arith
+  onward_few zero rest few U N (Ok (Look.Forward x)) h = omega arith
+  onward_few (suc left) rest few U N (Ok (Look.Forward x)) h = few x.next x.number
 
   journey_few : (left U N : ℕ) → (journey net t D left U N).refused ≤ 8
   journey_few zero U N = onward_few zero (λ W M. stop W M 8) (λ W M. omega arith) U N (look_at net t U D N) (look_few U N)
@@ -52,7 +55,8 @@ back j few [] long = absurd (omega arith)
 back j few (x ∷ []) long = absurd (omega arith)
 back j few (x ∷ y ∷ []) long = absurd (omega arith)
 back j few (x ∷ y ∷ z ∷ []) long = absurd (omega arith)
-back j few (x ∷ y ∷ z ∷ w ∷ rest) long = simp (le-leb 4 (length (x ∷ y ∷ z ∷ w ∷ rest)) long, end_back j.refused (omega arith))
+back j few (x ∷ y ∷ z ∷ w ∷ rest) long =
+    simp (le-leb 4 (length (x ∷ y ∷ z ∷ w ∷ rest)) long, few_kept j.refused (omega arith), end_back j.refused (omega arith))
 
 module _ (net : Network) (t : Table) (U D : ℕ) (stack : List ℕ) (limit : ℕ) where
   pub carry_few : (carry_of net t U D stack limit).refused ≤ 8

@@ -7,6 +7,9 @@ use mathlib.Core.Bool.{Bool, true, false, cond}
 use lib.Dec.{leb, eqb}
 use borrow.Author.Tests.{leb-true}
 use Rattle.lists.proofs.Tests.{both}
+use Rattle.std.specs.Prelude.{Ok, Err}
+use Rattle.refusal.specs.declared.Refusal.{Refusal}
+use Rattle.refusal.specs.Numbers.{named}
 use Rattle.stacks.specs.Stacks.{number}
 use Rattle.functions.proofs.Tests.{function}
 use Rattle.network.specs.Network.{Network, stacks}
@@ -15,7 +18,7 @@ use Rattle.gateways.proofs.Laws.{can_function}
 use Rattle.table.specs.Table.{Table, no_row, ceiling, home}
 use Rattle.table.specs.Answers.{refusal}
 use Rattle.table.proofs.Begins.{Ready, divides}
-use Rattle.forward.specs.Forward.{cost_of, next_of, function_of, result_of, ok_row, look_at}
+use Rattle.forward.specs.Forward.{forward, cost_of, next_of, function_of, result_of, ok_row, look_at}
 use Rattle.packet.specs.Packet.{ok_packet}
 use Rattle.forward.specs.Answers.{lookup_of}
 use Rattle.forward.specs.declared.Look.{Look}
@@ -45,22 +48,22 @@ module _ (net : Network) (t : Table) (ready : Ready net t (stacks net)) (U D N :
   at_fits = go (home net U D N) refl (eqb (cost_of net t U D N) no_row) refl (ok_row net t U D N) refl
     where
       go : (a : Bool) → home net U D N ≡ a → (b : Bool) → eqb (cost_of net t U D N) no_row ≡ b → (c : Bool) → ok_row net t U D N ≡ c
-          → LookFits (cond a Look.Delivered (cond b (Look.Refused 6)
-          (cond c (Look.Forward (next_of net t U D N) (function_of net t U D N) (result_of net t U D N) (cost_of net t U D N)) (Look.Refused 7))))
+          → LookFits (cond a (Ok Look.Delivered) (cond b (Err Refusal.NoRoute)
+          (cond c (forward (next_of net t U D N) (function_of net t U D N) (result_of net t U D N) (cost_of net t U D N)) (Err Refusal.Broken))))
       go true x b y c z = tt
-      go false x true y c z = record { some = omega arith; most = omega arith }
+      go false x true y c z = tt
       go false x false y true z = forward_fits x y z
-      go false x false y false z = record { some = omega arith; most = omega arith }
+      go false x false y false z = tt
 
 module _ (net : Network) (t : Table) (U D : ℕ) (stack : List ℕ) where
   pub look_fits : LookFits (lookup_of net t U D stack)
-  look_fits = by_refusal net t LookFits (cond (ok_packet net U D stack) (look_at net t U D (number net.p stack)) (Look.Refused 4))
-      (Look.Refused (refusal net t))
-      (λ r. go r (ok_packet net U D stack)) (λ some few. record { some = some; most = omega (arith, few) })
+  look_fits = by_refusal net t LookFits (cond (ok_packet net U D stack) (look_at net t U D (number net.p stack)) (Err Refusal.Range))
+      (Err (named (refusal net t)))
+      (λ r. go r (ok_packet net U D stack)) (λ some few. tt)
     where
-      go : Ready net t (stacks net) → (b : Bool) → LookFits (cond b (look_at net t U D (number net.p stack)) (Look.Refused 4))
+      go : Ready net t (stacks net) → (b : Bool) → LookFits (cond b (look_at net t U D (number net.p stack)) (Err Refusal.Range))
       go r true = at_fits net t r U D (number net.p stack)
-      go r false = record { some = omega arith; most = omega arith }
+      go r false = tt
 
   -- what the C caller reads back is the lookup's whole answer
   pub lookup_kept : unpack_look (pack_look (lookup_of net t U D stack)) ≡ lookup_of net t U D stack

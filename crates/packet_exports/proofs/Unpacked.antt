@@ -3,9 +3,11 @@ use Prim.Native.Nat.{ℕ, ◌+◌, ◌*◌, ◌/◌, ◌^◌}
 use native.Mathlib.Omega.{arith}
 use mathlib.Core.Path.{◌≡◌, refl}
 use borrow.Author.Tests.{eq-eqb, ne_eqb}
+use Rattle.std.specs.Prelude.{Result, Ok, Err}
+use Rattle.refusal.specs.declared.Refusal.{Refusal}
 use Rattle.forward.specs.declared.Look.{Look}
 use Rattle.packing.specs.Packing.{is_refused, is_found, sender_in, receiver_in, low_in, number_in}
-use Rattle.packing.proofs.Unpacked.{refusal_read, apart}
+use Rattle.packing.proofs.Unpacked.{refused_back, apart}
 use Rattle.packet_exports.specs.Packing.{pack_forward, pack_look, unpack_look}
 use Rattle.packet_exports.specs.Ranges.{ForwardFits, LookFits}
 
@@ -27,20 +29,20 @@ forward_read v f n c fits =
     let thirty_two : pack_forward v f n c / 2 ^ 32 ≡ ((64 + v) * 256 + f) * 65536 + n = omega arith in
     record { told = omega arith; found = omega arith; hops = omega arith; applies = omega arith; numbered = omega arith; priced = omega arith }
 
-pub look_back : (a : Look) → LookFits a → unpack_look (pack_look a) ≡ a
+pub look_back : (a : Result Look Refusal) → LookFits a → unpack_look (pack_look a) ≡ a
 unfolding unpack_look
-look_back Look.Delivered f = refl
-look_back (Look.Forward v g n c) f =
-    let m = forward_read v g n c f in
+look_back (Ok Look.Delivered) f = refl
+look_back (Ok (Look.Forward x)) f =
+    let m = forward_read x.next x.function x.number x.cost f in
     simp (
-      eq-eqb (is_refused (pack_forward v g n c)) 0 m.told,
-      ne_eqb (is_found (pack_forward v g n c)) 0 (λ e. omega (arith, e, m.found)),
+      eq-eqb (is_refused (pack_forward x.next x.function x.number x.cost)) 0 m.told,
+      ne_eqb (is_found (pack_forward x.next x.function x.number x.cost)) 0 (λ e. omega (arith, e, m.found)),
       m.hops,
       m.applies,
       m.numbered,
       m.priced,
     )
-look_back (Look.Refused r) f = refusal_read r f _ Look.Refused
+look_back (Err r) f = refused_back r _
 
-pub look_apart : (a b : Look) → LookFits a → LookFits b → pack_look a ≡ pack_look b → a ≡ b
+pub look_apart : (a b : Result Look Refusal) → LookFits a → LookFits b → pack_look a ≡ pack_look b → a ≡ b
 look_apart a b f g e = apart pack_look unpack_look a b (look_back a f) (look_back b g) e

@@ -1,8 +1,8 @@
 -- The ranges in which nothing is lost: every answer of a lookup is within them (proofs/Looked.antt).
-use Rattle.std.specs.Prelude.{ℕ, ◌<◌, ◌≤◌}
+use Rattle.std.specs.Prelude.{ℕ, ◌<◌, ◌≤◌, Result, Ok, Err}
+use Rattle.refusal.specs.declared.Refusal.{Refusal}
 use Rattle.table.specs.Table.{ceiling}
 use Rattle.forward.specs.declared.Look.{Look}
-use Rattle.packing.specs.Ranges.{RefusalFits}
 
 pub record ForwardFits (next function number cost : ℕ) : Type 0 where
   pub hops : next < 32
@@ -10,7 +10,7 @@ pub record ForwardFits (next function number cost : ℕ) : Type 0 where
   pub numbered : number ≤ 16384
   pub priced : cost ≤ ceiling
 
-abbrev pub LookFits : Look → Type 0
-LookFits Look.Delivered = Unit {0}
-LookFits (Look.Forward next function number cost) = ForwardFits next function number cost
-LookFits (Look.Refused refusal) = RefusalFits refusal
+abbrev pub LookFits : Result Look Refusal → Type 0
+LookFits (Ok Look.Delivered) = Unit {0}
+LookFits (Ok (Look.Forward hop)) = ForwardFits hop.next hop.function hop.number hop.cost
+LookFits (Err refusal) = Unit {0}

@@ -1,52 +1,57 @@
 // An answer of four numbers, written into a slice that the caller lends, as specs/Four.antt says.
-ghost use Rattle.std.specs.Prelude.{◌≡◌, ◌≤◌, length};
-ghost use Rattle.packet_exports.specs.Four.{FourExported, read_four};
-ghost use Rattle.packet_exports.specs.Steps.{four_of};
+ghost use Rattle.std.specs.Prelude.{◌≤◌, length};
+ghost use Rattle.packet_exports.specs.Four.{FourExported};
+ghost use Rattle.packet_exports.specs.Steps.{IsCarried, IsRead};
 
 use carry::Carried;
-use headers::Read;
+use headers::{Read, Unread};
 use packing::packed_end;
+use refusal::Refusal;
 
-// Four numbers, and the refusal's, 0 where nothing is refused.
+// Four numbers, and the refusal, if there is one.
 #[derive(Clone, Copy)]
 pub(crate) struct Four {
     pub first: u64,
     pub second: u64,
     pub third: u64,
     pub fourth: u64,
-    pub refused: u32,
+    pub refused: Option<Refusal>,
 }
 
-pub(crate) fn four_carried(carried: Carried) -> Four
-    ensures { result ≡ four_of carried }
-{
-    Four {
-        first: carried.hops,
-        second: carried.spent,
-        third: carried.node as u64,
-        fourth: carried.number as u64,
-        refused: carried.refused,
+impl From<Carried> for Four {
+    ghost from_gives = { IsCarried };
+
+    fn from(carried: Carried) -> Four {
+        Four {
+            first: carried.hops,
+            second: carried.spent,
+            third: carried.node as u64,
+            fourth: carried.number as u64,
+            refused: carried.refused,
+        }
     }
 }
 
-pub(crate) fn four_read(read: Read) -> Four
-    ensures { result ≡ read_four read }
-{
-    match read {
-        Read::Stack(height, number, from, to) => Four {
-            first: height as u64,
-            second: number as u64,
-            third: from as u64,
-            fourth: to as u64,
-            refused: 0,
-        },
-        Read::Refused(refusal, header, start) => Four {
-            first: header as u64,
-            second: start as u64,
-            third: 0,
-            fourth: 0,
-            refused: refusal,
-        },
+impl From<Result<Read, Unread>> for Four {
+    ghost from_gives = { IsRead };
+
+    fn from(answer: Result<Read, Unread>) -> Four {
+        match answer {
+            Ok(read) => Four {
+                first: read.height as u64,
+                second: read.number as u64,
+                third: read.from as u64,
+                fourth: read.to as u64,
+                refused: None,
+            },
+            Err(unread) => Four {
+                first: unread.header as u64,
+                second: unread.start as u64,
+                third: 0,
+                fourth: 0,
+                refused: Some(unread.refusal),
+            },
+        }
     }
 }
 
@@ -59,5 +64,5 @@ pub(crate) fn four_written(four: Four, answer: &mut [u64]) -> u64
     answer[1] = four.second;
     answer[2] = four.third;
     answer[3] = four.fourth;
-    packed_end(four.refused)
+    packed_end(four.refused.map_or(0, u32::from))
 }

@@ -12,9 +12,12 @@ ghost use Rattle.packet_exports.specs.Four.{FourExported, ReadExported, carry_fo
 mod four;
 mod packed;
 
-use four::{four_carried, four_read, four_written};
+use four::{Four, four_written};
+use network::Network;
 use packed::packed_look;
 use packing::packed_refused;
+use refusal::Refusal;
+use table::Table;
 
 // The next hop of a packet, as the forwarding daemon asks for it.
 #[unsafe(no_mangle)]
@@ -33,19 +36,15 @@ pub extern "C" fn bannogwy_lookup(
 ) -> u64
     ensures { result ≡ pack_look (lookup_of (network_of n p h links.now functions.now) (table_of cost.now way.now waiting.now) node destination stack.now) }
 {
-    packed_look(forward::lookup(
+    let net = Network {
         n,
         p,
         h,
         links,
         functions,
-        cost,
-        way,
-        waiting,
-        node,
-        destination,
-        stack,
-    ))
+    };
+    let table = Table { cost, way, waiting };
+    packed_look(forward::lookup(&net, &table, node, destination, stack))
 }
 
 // How far a packet is carried: hops, cost spent, node and stack number reached go into answer.
@@ -70,23 +69,18 @@ pub extern "C" fn bannogwy_carry(
         answer.old result answer.new }
 {
     if answer.len() < 4 {
-        return packed_refused(9);
+        return packed_refused(u32::from(Refusal::NoRoom));
     }
-    let carried = carry::carry(
+    let net = Network {
         n,
         p,
         h,
         links,
         functions,
-        cost,
-        way,
-        waiting,
-        node,
-        destination,
-        stack,
-        limit,
-    );
-    four_written(four_carried(carried), answer)
+    };
+    let table = Table { cost, way, waiting };
+    let carried = carry::carry(&net, &table, node, destination, stack, limit);
+    four_written(Four::from(carried), answer)
 }
 
 // The stack of headers of a packet, bottom to top, into the front of out; its numbers go into answer.
@@ -101,7 +95,8 @@ pub extern "C" fn bannogwy_read_stack(
 {
     let room = answer.len();
     if room < 4 {
-        return packed_refused(9);
+        return packed_refused(u32::from(Refusal::NoRoom));
     }
-    four_written(four_read(headers::read_stack(h, packet, out)), answer)
+    let read = headers::read_stack(h, packet, out);
+    four_written(Four::from(read), answer)
 }

@@ -3,32 +3,28 @@ ghost use Rattle.std.specs.Prelude.{◌≡◌};
 ghost use Rattle.packet_exports.specs.Packing.{pack_forward, pack_look};
 ghost use Rattle.packet_exports.specs.Ranges.{ForwardFits, LookFits};
 
-use forward::Look;
+use forward::{Hop, Look};
 use packing::packed_refused;
+use refusal::Refusal;
 
-fn packed_forward(next: u64, function: u64, number: u64, cost: u64) -> u64
-    requires { ForwardFits next function number cost }
-    ensures { result ≡ pack_forward next function number cost }
+fn packed_forward(hop: Hop) -> u64
+    requires { ForwardFits hop.next hop.function hop.number hop.cost }
+    ensures { result ≡ pack_forward hop.next hop.function hop.number hop.cost }
 {
     4611686018427387904
-        + next * 72057594037927936
-        + function * 281474976710656
-        + number * 4294967296
-        + cost
+        + hop.next as u64 * 72057594037927936
+        + hop.function as u64 * 281474976710656
+        + hop.number as u64 * 4294967296
+        + u64::from(hop.cost)
 }
 
-pub(crate) fn packed_look(answer: Look) -> u64
+pub(crate) fn packed_look(answer: Result<Look, Refusal>) -> u64
     requires { LookFits answer }
     ensures { result ≡ pack_look answer }
 {
     match answer {
-        Look::Forward(next, function, number, cost) => packed_forward(
-            next as u64,
-            function as u64,
-            number as u64,
-            cost as u64,
-        ),
-        Look::Delivered => 0,
-        Look::Refused(refusal) => packed_refused(refusal),
+        Ok(Look::Forward(hop)) => packed_forward(hop),
+        Ok(Look::Delivered) => 0,
+        Err(refusal) => packed_refused(u32::from(refusal)),
     }
 }

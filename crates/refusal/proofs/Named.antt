@@ -1,9 +1,10 @@
 -- `named` and `refusal_number` take each other back.
-use Rattle.std.specs.Prelude.{ℕ, Bool, true, false, cond, ◌≡◌}
+use Rattle.std.specs.Prelude.{ℕ, zero, suc, ◌≤◌, Bool, true, false, cond, ◌≡◌}
+use native.Mathlib.Omega.{arith}
 use mathlib.Core.Path.{refl}
 use Rattle.lists.specs.Lists.{unless}
 use Rattle.refusal.specs.declared.Refusal.{Refusal}
-use Rattle.refusal.specs.Numbers.{refusal_number, named}
+use Rattle.refusal.specs.Numbers.{refusal_number, number_or_none, named, refused_with}
 
 pub named_number : (r : Refusal) → named (refusal_number r) ≡ r
 named_number Refusal.Sizes = refl
@@ -26,6 +27,20 @@ named_number Refusal.Higher = refl
 -- a number that stands in the list of refusals
 abbrev pub Listed : ℕ → Type 0
 Listed k = refusal_number (named k) ≡ k
+
+-- of a call that tells its refusal beside other numbers: the ten smallest, of which 0 is none
+pub few_kept : (k : ℕ) → k ≤ 9 → number_or_none (refused_with k) ≡ k
+few_kept zero most = refl
+few_kept (suc zero) most = refl
+few_kept (suc (suc zero)) most = refl
+few_kept (suc (suc (suc zero))) most = refl
+few_kept (suc (suc (suc (suc zero)))) most = refl
+few_kept (suc (suc (suc (suc (suc zero))))) most = refl
+few_kept (suc (suc (suc (suc (suc (suc zero)))))) most = refl
+few_kept (suc (suc (suc (suc (suc (suc (suc zero))))))) most = refl
+few_kept (suc (suc (suc (suc (suc (suc (suc (suc zero)))))))) most = refl
+few_kept (suc (suc (suc (suc (suc (suc (suc (suc (suc zero))))))))) most = refl
+few_kept (suc (suc (suc (suc (suc (suc (suc (suc (suc (suc k)))))))))) most = absurd (omega arith)
 
 -- what comes of tests in turn is in the list if each number on the way is, and 0 stands for none
 abbrev pub ListedOrNone : ℕ → Type 0

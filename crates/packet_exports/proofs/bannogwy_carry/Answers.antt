@@ -1,21 +1,16 @@
 -- `packet_exports::bannogwy_carry` meets its contract.
 use native.Mathlib.Omega.{arith}
+use mathlib.Core.Path.{ap, ◌∙◌}
+use Rattle.packing.specs.Packing.{pack_refused}
 use Rattle.network.specs.Network.{network_of}
 use Rattle.table.specs.Table.{table_of}
 use Rattle.carry.specs.Carry.{carry_of}
 use Rattle.packet_exports.specs.Four.{carry_four}
-use Rattle.packet_exports.proofs.Fours.{no_room, has_carried}
+use Rattle.packet_exports.proofs.Fours.{no_room}
 use Rattle.packet_exports.proofs.bannogwy_carry.Goals as goal
 
 pub returns-then-answer-lt4 : goal.returns-then-answer-lt4
 returns-then-answer-lt4 c =
     let a = c.args in
     no_room a.answer.now (carry_four (carry_of (network_of a.n a.p a.h a.links.now a.functions.now) (table_of a.cost.now a.way.now a.waiting.now) a.node
-    a.destination a.stack.now a.limit)) c.packed_refused.result (omega arith) c.packed_refused.ensures
-
-pub returns : goal.returns
-returns c =
-    let a = c.args in
-    has_carried a.answer.now (carry_of (network_of a.n a.p a.h a.links.now a.functions.now) (table_of a.cost.now a.way.now a.waiting.now) a.node
-    a.destination a.stack.now a.limit) c.carry-carried.result c.four_carried.result c.four_written.result _
-    c.carry-carried.ensures c.four_carried.ensures c.four_written.ensures
+    a.destination a.stack.now a.limit)) c.packed_refused.result (omega arith) (c.packed_refused.ensures ∙ ap pack_refused c.from.ensures)
