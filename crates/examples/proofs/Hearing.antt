@@ -5,14 +5,15 @@ use mathlib.Core.List.{List}
 use mathlib.Core.Bool.{cond}
 use lib.ListN.{set}
 use lib.Dec.{eqb}
+use Rattle.std.specs.Prelude.{Ok, Err}
 use Rattle.lists.specs.Lists.{tabulate, first_below, how_many}
+use Rattle.refusal.specs.declared.Refusal.{Refusal}
 use Rattle.relax.specs.Graph.{wins}
 use Rattle.functions.specs.Functions.{ok_function}
 use Rattle.functions.specs.Answers.{ok_move}
 use Rattle.bits.specs.Bits.{with_all}
 use Rattle.hear.specs.Hearing.{Gateway, Message, Rows, leads_by, leader, offer, takes, cost_at, way_at, waiting_at, heard, taken}
 use Rattle.hear.specs.Answers.{gateway_of, message_of, rows_of, ok_hearing, hear_refusal, hear_answer, rows_after}
-use Rattle.hear.specs.declared.Heard.{Heard}
 
 -- eight by eight words, all 0 but one
 abbrev grid : ℕ → ℕ → ℕ → List (List ℕ)
@@ -38,19 +39,20 @@ place = 3 * 6 + 4 - 1
 abbrev after : Rows
 after = rows_of (set fresh.costs place 2) (set fresh.ways place (256 * 3 + (128 + 8 * 0 + 1))) (set fresh.waiting place 10)
 
-pub one_row : (hear_answer node2 from3 fresh ≡ Heard.Rows 1) × (rows_after node2 from3 fresh ≡ after)
+pub one_row : (hear_answer node2 from3 fresh ≡ Ok 1) × (rows_after node2 from3 fresh ≡ after)
 unfolding hear_refusal ok_hearing rows_after heard taken takes cost_at way_at waiting_at leader leads_by offer tabulate first_below how_many wins ok_move
     ok_function with_all
 one_row = (refl, refl)
 
 -- the same message again offers no less, so that no row takes it
-pub again : (hear_answer node2 from3 after ≡ Heard.Rows 0) × (rows_after node2 from3 after ≡ after)
+pub again : (hear_answer node2 from3 after ≡ Ok 0) × (rows_after node2 from3 after ≡ after)
 unfolding hear_refusal ok_hearing rows_after heard taken takes cost_at way_at waiting_at leader leads_by offer tabulate first_below how_many wins ok_move
     ok_function with_all
 again = (refl, refl)
 
 -- a stack number that is not there, and a cost above the ceiling
-pub refusals : (hear_answer node2 (message_of 3 3 7 0 1) fresh ≡ Heard.Refused 4) × (hear_answer node2 (message_of 3 3 1 2147303428 1) fresh ≡ Heard.Refused 7)
+pub refusals : (hear_answer node2 (message_of 3 3 7 0 1) fresh ≡ Err Refusal.Range)
+    × (hear_answer node2 (message_of 3 3 1 2147303428 1) fresh ≡ Err Refusal.Broken)
     × (rows_after node2 (message_of 3 3 1 2147303428 1) fresh ≡ fresh)
 unfolding hear_refusal ok_hearing rows_after heard taken takes cost_at way_at waiting_at leader leads_by offer tabulate first_below how_many wins ok_move
     ok_function with_all

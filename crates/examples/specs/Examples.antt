@@ -1,5 +1,6 @@
 -- THE EXAMPLES P1 to P12 of the specification, one table, over its small network. proofs/Examples.antt computes them.
-use Rattle.std.specs.Prelude.{ℕ, ◌≡◌, [], ◌∷◌, get_or}
+use Rattle.std.specs.Prelude.{ℕ, ◌≡◌, [], ◌∷◌, get_or, Ok, Err}
+use Rattle.refusal.specs.declared.Refusal.{Refusal}
 use Rattle.stacks.specs.Stacks.{number, count}
 use Rattle.functions.specs.Functions.{apply, cannot}
 use Rattle.words.specs.Words.{ones_in}
@@ -7,10 +8,8 @@ use Rattle.network.specs.SmallNetwork.{a, b, wrap_a_in_b, smallnet}
 use Rattle.table.specs.Table.{Table, place, fresh}
 use Rattle.table.specs.Answers.{deliver_answer, deliver_table}
 use Rattle.table.specs.Run.{run_of}
-use Rattle.table.specs.declared.Delivered.{Delivered}
 use Rattle.carry.specs.Carry.{Journey, carry_of}
 use Rattle.forward.specs.Answers.{lookup_of}
-use Rattle.forward.specs.declared.Look.{Look}
 
 -- after the delivery from 3 to 2 about (3, a), and once no message waits
 abbrev pub heard : Table
@@ -35,10 +34,10 @@ pub record Examples : Type 0 where
   -- "smallnet fresh: 6 waiting"
   pub P5 : ones_in (fresh smallnet).waiting ≡ 6
   -- "then 3 to 2 about (3, a): one row, (2,3,ab), cost 2; 7 waiting"
-  pub P6 : (deliver_answer smallnet (fresh smallnet) 3 2 3 (number 2 (a ∷ [])) ≡ Delivered.Rows 1)
+  pub P6 : (deliver_answer smallnet (fresh smallnet) 3 2 3 (number 2 (a ∷ [])) ≡ Ok 1)
       × (get_or heard.cost (place smallnet 2 3 (number 2 (a ∷ b ∷ []))) 0 ≡ 2) × (ones_in heard.waiting ≡ 7)
   -- "the same again: 5", and the table stays
-  pub P7 : (deliver_answer smallnet heard 3 2 3 (number 2 (a ∷ [])) ≡ Delivered.Refused 5) × (deliver_table smallnet heard 3 2 3 (number 2 (a ∷ [])) ≡ heard)
+  pub P7 : (deliver_answer smallnet heard 3 2 3 (number 2 (a ∷ [])) ≡ Err Refusal.NoMessage) × (deliver_table smallnet heard 3 2 3 (number 2 (a ∷ [])) ≡ heard)
   -- the run to quiet takes 14 deliveries; "quiet, carry 0 to 3 with a: 3 hops, 12"
   pub P8 : ((run_of smallnet 100 (fresh smallnet)).done ≡ 14) × (ones_in quiet.waiting ≡ 0)
       × (carry_of smallnet quiet 0 3 (a ∷ []) 16384 ≡ came 3 12 3 (number 2 (a ∷ [])) 0)
@@ -48,6 +47,6 @@ pub record Examples : Type 0 where
   -- "carry 3 to 3 with a, limit 0: 0 hops, 0"
   pub P10 : carry_of smallnet quiet 3 3 (a ∷ []) 0 ≡ came 0 0 3 (number 2 (a ∷ [])) 0
   -- "lookup 0 to 2 with a: 6"
-  pub P11 : lookup_of smallnet quiet 0 2 (a ∷ []) ≡ Look.Refused 6
+  pub P11 : lookup_of smallnet quiet 0 2 (a ∷ []) ≡ Err Refusal.NoRoute
   -- "wrap a in b on ab: not applicable": the top is b and not a, at any height bound
   pub P12 : (apply 2 wrap_a_in_b (a ∷ b ∷ []) ≡ cannot) × (apply 12 wrap_a_in_b (a ∷ b ∷ []) ≡ cannot)

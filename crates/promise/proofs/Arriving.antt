@@ -14,10 +14,9 @@ use Rattle.network.proofs.Laws.{valid}
 use Rattle.table.specs.Table.{Table, no_row, ceiling, rows_each, home}
 use Rattle.table.specs.Answers.{refusal}
 use Rattle.table.proofs.Rows.{Stack}
-use Rattle.forward.specs.Forward.{cost_of, next_of, result_of}
+use Rattle.forward.specs.Forward.{forward, cost_of, next_of, result_of}
 use Rattle.carry.specs.Carry.{Journey, stop, after, onward, journey, carry_of}
 use Rattle.forward.specs.Answers.{lookup_of}
-use Rattle.forward.specs.declared.Look.{Look}
 use Rattle.promise.specs.Routes.{Network16, Reached, Arrives}
 use Rattle.promise.proofs.Reaching.{reached_refusal}
 use Rattle.promise.proofs.Onward.{cost_most, goes_on}
@@ -65,7 +64,7 @@ module _ (net : Network) (ok : Network16 net) (t : Table) (r : Reached net t) (D
       (still_priced _ _ _ g.pays (cost_most net ok t r U D N c u d n)))))
 
 module _ (net : Network) (ok : Network16 net) (t : Table) (U D W f M c : ℕ) (stack : List ℕ) (r : Reached net t)
-    (e : lookup_of net t U D stack ≡ Look.Forward W f M c) where
+    (e : lookup_of net t U D stack ≡ forward W f M c) where
   carry_arrives : (limit : ℕ) → limit ≤ 16384 → rows_each net ≤ limit → Arrives net D c (carry_of net t U D stack limit)
   unfolding carry_of
   carry_arrives limit few enough =

@@ -17,9 +17,8 @@ use Rattle.network.proofs.Laws.{valid}
 use Rattle.gateways.specs.Gateways.{weight}
 use Rattle.table.specs.Table.{Table, no_row, home, vertex}
 use Rattle.table.proofs.Rows.{Stack}
-use Rattle.forward.specs.Forward.{cost_of, next_of, function_of, result_of}
+use Rattle.forward.specs.Forward.{forward, cost_of, next_of, function_of, result_of}
 use Rattle.forward.specs.Answers.{lookup_of}
-use Rattle.forward.specs.declared.Look.{Look}
 use Rattle.bridge.specs.Bridge.{graph_of}
 use Rattle.promise.specs.Routes.{Network16, Reached, Later, Carried, arrived, onward}
 use Rattle.promise.proofs.Reaching.{bridge, sized, reached, reached_later, later}
@@ -71,7 +70,7 @@ module _ (net : Network) (ok : Network16 net) (D : ℕ) (d : D < net.n) where
         let fits : ok_stack net.p net.h result ≡ true = stack_in_range net.p net.h size (result_of net t U D N) l.to in
         let makes : apply net.h f stack ≡ becomes result = ap (apply net.h f) (sym (stack_of_number net.p net.h size stack k.stack_ok)) ∙ l.makes in
         onward {t = t} {U = U} {c = c} {stack = stack} W f (cost_of net t U D N) result
-        (looks_on net ok t r U D stack k e priced ∙ ap (λ (M : ℕ). Look.Forward W f M (cost_of net t U D N)) (sym same))
+        (looks_on net ok t r U D stack k e priced ∙ ap (λ (M : ℕ). forward W f M (cost_of net t U D N)) (sym same))
         g.can_it g.linked makes fits (omega (arith, g.pays))
         (λ u later_on. rest u later_on (record { node = g.next_node; destination = d; stack_ok = fits })
         (rw same (omega (arith, g.pays, cost_falls r later_on W (result_of net t U D N) g.next_node g.next_stack))))
@@ -94,7 +93,7 @@ module _ (net : Network) (ok : Network16 net) (D : ℕ) (d : D < net.n) where
 
 -- what is shown, carries, in every later table
 pub carried_on : (net : Network) → Network16 net → (t u : Table) (U D W f M c : ℕ) (stack : List ℕ) → Reached net t
-    → lookup_of net t U D stack ≡ Look.Forward W f M c → Later net t u → Carried net D u U stack c
+    → lookup_of net t U D stack ≡ forward W f M c → Later net t u → Carried net D u U stack c
 carried_on net ok t u U D W f M c stack r e l =
     let s = shown net t U D W f M c stack e in
     let d = s.asked.destination in

@@ -9,12 +9,12 @@ use mathlib.Core.Bool.{Bool, true, false, cond}
 use lib.ListN.{get_or}
 use lib.Dec.{eqb}
 use borrow.Author.Tests.{eqb-true}
+use Rattle.std.specs.Prelude.{None}
 use Rattle.lists.proofs.Tables.{get_or_tabulate}
 use Rattle.bits.specs.Bits.{lowest, without, ones_of}
 use Rattle.bits.proofs.Counts.{ones_zero}
 use Rattle.bits.proofs.Laws.{without_fits, with_all_fits}
-use Rattle.words.specs.Words.{ones_in, first_set_from, first_in}
-use Rattle.words.specs.declared.Found.{Found}
+use Rattle.words.specs.Words.{ones_in, found_at, first_set_from, first_in}
 use Rattle.network.specs.Network.{Network, neighbours, refusal_of}
 use Rattle.network.proofs.Laws.{neighbours_fits}
 use Rattle.table.specs.Table.{Table, Sized, rows_all, place, node_at, destination_at, number_at, home_at, fresh, cleared, delivered}
@@ -26,17 +26,17 @@ use Rattle.promise.specs.Routes.{Reached, begun, delivery}
 use Rattle.promise.proofs.Reaching.{sized}
 
 -- ---- a word without bits, and a list of such words
-none_found : (i : ℕ) (ws : List ℕ) → first_set_from i ws ≡ Found.Nowhere → ones_in ws ≡ 0
+none_found : (i : ℕ) (ws : List ℕ) → first_set_from i ws ≡ None → ones_in ws ≡ 0
 unfolding first_set_from ones_in
 none_found i [] e = refl
 none_found i (w ∷ ws) e = go (eqb w 0) refl (none_found (suc i) ws) e
   where
-    go : (b : Bool) → eqb w 0 ≡ b → (first_set_from (suc i) ws ≡ Found.Nowhere → ones_in ws ≡ 0)
-        → cond b (first_set_from (suc i) ws) (Found.At i (lowest w)) ≡ Found.Nowhere → ones_of w + ones_in ws ≡ 0
+    go : (b : Bool) → eqb w 0 ≡ b → (first_set_from (suc i) ws ≡ None → ones_in ws ≡ 0)
+        → cond b (first_set_from (suc i) ws) (found_at i (lowest w)) ≡ None → ones_of w + ones_in ws ≡ 0
     go true z rest d = omega (arith, rest d, ap ones_of (eqb-true w 0 z), ones_zero)
     go false z rest d = absurd (let z : ◌≡◌ {A = ℕ} 0 1 = cc in omega arith)
 
-pub nowhere_quiet : (ws : List ℕ) → first_in ws ≡ Found.Nowhere → ones_in ws ≡ 0
+pub nowhere_quiet : (ws : List ℕ) → first_in ws ≡ None → ones_in ws ≡ 0
 unfolding first_in
 nowhere_quiet ws e = none_found 0 ws e
 

@@ -10,8 +10,10 @@ use mathlib.Core.List.{List}
 use mathlib.Core.Bool.{true, false, ◌&&◌}
 use lib.Dec.{leb}
 use borrow.Author.Tests.{eq-eqb, ne_eqb, leb-true, le-leb, lt-leb}
+use Rattle.std.specs.Prelude.{Ok, Err}
 use Rattle.lists.proofs.Tests.{bool_cases, both}
 use Rattle.lists.specs.Lists.{one}
+use Rattle.refusal.specs.declared.Refusal.{Refusal}
 use Rattle.relax.specs.Journeys.{sum}
 use Rattle.relax.proofs.Sum.{sum_lt, sum_most, bit_one, bit_le, bit_lt}
 use Rattle.stacks.specs.Stacks.{number}
@@ -20,7 +22,7 @@ use Rattle.network.proofs.Laws.{valid}
 use Rattle.table.specs.Table.{Table, no_row, rows_each, home, vertex}
 use Rattle.table.specs.Answers.{refusal}
 use Rattle.table.proofs.Rows.{Stack, vertex_below}
-use Rattle.forward.specs.Forward.{cost_of, next_of, function_of, result_of, look_at}
+use Rattle.forward.specs.Forward.{forward, cost_of, next_of, function_of, result_of, look_at}
 use Rattle.carry.specs.Carry.{journey, carry_of}
 use Rattle.packet.specs.Packet.{ok_packet}
 use Rattle.forward.specs.declared.Look.{Look}
@@ -55,16 +57,16 @@ module _ (net : Network) (ok : Network16 net) (t : Table) (r : Reached net t) (D
     pub away_row : home net U D N ≡ false → Away net U D N
     away_row e = record { node = u; destination = d; stack = n; away = e }
 
-    pub looks_home : home net U D N ≡ true → look_at net t U D N ≡ Look.Delivered
+    pub looks_home : home net U D N ≡ true → look_at net t U D N ≡ Ok Look.Delivered
     unfolding look_at
     looks_home e = simp e
 
-    looks_none : home net U D N ≡ false → cost_of net t U D N ≡ no_row → look_at net t U D N ≡ Look.Refused 6
+    looks_none : home net U D N ≡ false → cost_of net t U D N ≡ no_row → look_at net t U D N ≡ Err Refusal.NoRoute
     unfolding look_at
     looks_none e c = simp (e, eq-eqb (cost_of net t U D N) no_row c)
 
     pub looks_on : home net U D N ≡ false → cost_of net t U D N ≢ no_row
-        → look_at net t U D N ≡ Look.Forward (next_of net t U D N) (function_of net t U D N) (result_of net t U D N) (cost_of net t U D N)
+        → look_at net t U D N ≡ forward (next_of net t U D N) (function_of net t U D N) (result_of net t U D N) (cost_of net t U D N)
     unfolding look_at
     looks_on e c = simp (e, ne_eqb (cost_of net t U D N) no_row c, row_ok net ok t r U D N (away_row e) c)
 

@@ -1,4 +1,5 @@
 -- THE PROMISES ARE KEPT: all of specs/Promise.antt.
+use Rattle.refusal.specs.declared.Refusal.{Refusal}
 use Rattle.forward.specs.Answers.{lookup_of}
 use Rattle.promise.specs.Promise.{Promise}
 use Rattle.promise.proofs.Reaching.{begins, reached_refusal}
@@ -24,14 +25,14 @@ kept net ok = record {
   delivered_here = delivered_here net ok;
   attained = attained net ok;
   least = least net ok;
-  no_route = λ t U D stack r q k. read_as (lookup_of net t U D stack) 5 (no_route net ok t U D stack r q k);
+  no_route = λ t U D stack r q k. read_as (lookup_of net t U D stack) Refusal.NoRoute (no_route net ok t U D stack r q k);
   found = found net ok;
   quiet_said = quiet_said net ok;
   no_way_lem = no_way_lem net ok;
   home_kept = home_kept net ok;
   ceiling_kept = ceiling_kept net ok;
   delivers = delivers net ok;
-  never_7 = λ t U D stack r e. never_7 net ok t U D stack r (refused_is (lookup_of net t U D stack) 6 e);
+  never_7 = λ t U D stack r e. never_7 net ok t U D stack r (refused_is (lookup_of net t U D stack) Refusal.Broken e);
   carry_never_7 = λ t U D limit stack r. carry_never_7 net ok t U D stack r limit;
   never_8 = never_8 net ok;
   run_later = run_later net ok;

@@ -5,17 +5,18 @@ use mathlib.Core.Path.{◌≡◌, sym, ◌∙◌, subst}
 use mathlib.Core.Logic.{◌↔◌}
 use mathlib.Core.List.{List}
 use mathlib.Core.Bool.{true}
+use Rattle.std.specs.Prelude.{Err}
 use Rattle.lists.proofs.Tests.{bool_cases}
+use Rattle.refusal.specs.declared.Refusal.{Refusal}
 use Rattle.relax.specs.Journeys as theory
 use Rattle.relax.proofs.Sound.{sound}
 use Rattle.relax.proofs.Optimal.{routed, cheapest, lost}
 use Rattle.stacks.specs.Stacks.{number}
 use Rattle.network.specs.Network.{Network}
 use Rattle.table.specs.Table.{Table, no_row, home, vertex}
-use Rattle.forward.specs.Forward.{cost_of}
+use Rattle.forward.specs.Forward.{forward, cost_of}
 use Rattle.packet.specs.Packet.{ok_packet}
 use Rattle.forward.specs.Answers.{lookup_of}
-use Rattle.forward.specs.declared.Look.{Look}
 use Rattle.bridge.specs.Bridge.{graph_of, state_of}
 use Rattle.promise.specs.Routes.{Network16, Route, Reached, Quiet}
 use Rattle.promise.proofs.Reaching.{bridge, reached}
@@ -26,7 +27,7 @@ use Rattle.promise.proofs.Routing.{route_there, route_of}
 
 module _ (net : Network) (ok : Network16 net) where
   -- in every table that can come to be a route costs what is shown
-  pub attained_always : (t : Table) (U D W f M c : ℕ) (stack : List ℕ) → Reached net t → lookup_of net t U D stack ≡ Look.Forward W f M c
+  pub attained_always : (t : Table) (U D W f M c : ℕ) (stack : List ℕ) → Reached net t → lookup_of net t U D stack ≡ forward W f M c
       → Route net D U stack c
   attained_always t U D W f M c stack r e =
       let s = shown net t U D W f M c stack e in
@@ -37,12 +38,12 @@ module _ (net : Network) (ok : Network16 net) where
       (subst (theory.Route (graph_of net D) v) cost (routed (graph_of net D) (bridge net ok D d).lawful (reached net ok D d r) v
       (λ z. s.priced (sym cost ∙ z))))
 
-  pub attained : (t : Table) (U D W f M c : ℕ) (stack : List ℕ) → Reached net t → Quiet net t → lookup_of net t U D stack ≡ Look.Forward W f M c
+  pub attained : (t : Table) (U D W f M c : ℕ) (stack : List ℕ) → Reached net t → Quiet net t → lookup_of net t U D stack ≡ forward W f M c
       → Route net D U stack c
   attained t U D W f M c stack r q e = attained_always t U D W f M c stack r e
 
   pub least : (t : Table) (U D W f M c cost : ℕ) (stack : List ℕ) → Reached net t → Quiet net t
-      → lookup_of net t U D stack ≡ Look.Forward W f M c → Route net D U stack cost → c ≤ cost
+      → lookup_of net t U D stack ≡ forward W f M c → Route net D U stack cost → c ≤ cost
   least t U D W f M c cost stack r q e p =
       let s = shown net t U D W f M c stack e in
       let d = s.asked.destination in
@@ -70,13 +71,13 @@ module _ (net : Network) (ok : Network16 net) where
         sym same_cost ∙ (sound (graph_of net D) (reached net ok D k.destination r)).home_zero v
         (home_is net U D (number net.p stack) k.node (numbered net ok stack k.stack_ok) ∙ e)
 
-    said : ((cost : ℕ) → ¬ Route net D U stack cost) → lookup_of net t U D stack ≡ Look.Refused 6
+    said : ((cost : ℕ) → ¬ Route net D U stack cost) → lookup_of net t U D stack ≡ Err Refusal.NoRoute
     said no_way_lem =
         let c = none.1 no_way_lem in
         bool_cases (home net U D (number net.p stack)) (λ e. absurd (omega (arith, c, home_zero e))) (λ e. looks_none net ok t r U D stack k e c)
 
   pub no_route : (t : Table) (U D : ℕ) (stack : List ℕ) → Reached net t → Quiet net t → ok_packet net U D stack ≡ true
-      → (lookup_of net t U D stack ≡ Look.Refused 6) ↔ ((cost : ℕ) → ¬ Route net D U stack cost)
+      → (lookup_of net t U D stack ≡ Err Refusal.NoRoute) ↔ ((cost : ℕ) → ¬ Route net D U stack cost)
   no_route t U D stack r q e =
       let k = packet net t U D stack e in
       (λ e6. (none t U D stack r q k).0 (six_none net ok t r U D stack k e6), said t U D stack r q k)

@@ -1,14 +1,15 @@
 -- What a lookup answers in a table that can come to be, and what its answer tells. It is never 7.
 use Prim.Native.Nat.{ℕ, ◌<◌}
 use native.Mathlib.Decide.{ℕ_discrete}
-use native.Mathlib.Omega.{arith}
-use mathlib.Core.Path.{◌≡◌, refl, sym, ◌∙◌}
+use mathlib.Core.Path.{◌≡◌, refl, ap, ◌∙◌}
 use mathlib.Core.Logic.{◌≢◌, by_cases}
 use mathlib.Core.List.{List}
 use mathlib.Core.Bool.{Bool, true, false, cond, ◌&&◌}
 use lib.Dec.{ltb, eqb}
 use borrow.Author.Tests.{ltb-true, lt-ltb, eqb-false, eq-eqb, ne_eqb}
+use Rattle.std.specs.Prelude.{Result, Ok, Err}
 use Rattle.lists.proofs.Tests.{bool_cases, both}
+use Rattle.refusal.specs.declared.Refusal.{Refusal}
 use Rattle.stacks.specs.Stacks.{ok_stack, number}
 use Rattle.stacks.proofs.Laws.{number_in_range}
 use Rattle.stacks.proofs.Tests.{within}
@@ -17,9 +18,10 @@ use Rattle.network.proofs.Laws.{valid}
 use Rattle.table.specs.Table.{Table, no_row, home}
 use Rattle.table.specs.Answers.{refusal}
 use Rattle.table.proofs.Rows.{Stack}
-use Rattle.forward.specs.Forward.{cost_of, next_of, function_of, result_of, ok_row, look_at}
+use Rattle.forward.specs.Forward.{hop, forward, cost_of, next_of, function_of, result_of, ok_row, look_at}
 use Rattle.packet.specs.Packet.{ok_packet}
 use Rattle.forward.specs.Answers.{lookup_of}
+use Rattle.forward.specs.declared.Hop.{Hop}
 use Rattle.forward.specs.declared.Look.{Look}
 use Rattle.promise.specs.Routes.{Network16, Reached}
 use Rattle.promise.proofs.Reaching.{reached_refusal}
@@ -48,17 +50,28 @@ module _ (net : Network) (t : Table) (U D : ℕ) (stack : List ℕ) where
 pub numbered : (net : Network) → Network16 net → (stack : List ℕ) → ok_stack net.p net.h stack ≡ true → Stack net (number net.p stack)
 numbered net ok stack e = within net.p net.h (number net.p stack) (number_in_range net.p net.h (valid net ok.valid).size stack e)
 
--- ---- the tests that lead to a row's own answer
-forward_tests : (a b c d e : Bool) (r w x y z W f M k : ℕ)
-    → cond a (cond b (cond c Look.Delivered (cond d (Look.Refused 6) (cond e (Look.Forward w x y z) (Look.Refused 7)))) (Look.Refused 4)) (Look.Refused r)
-    ≡ Look.Forward W f M k
-    → (b ≡ true) × (c ≡ false) × (d ≡ false) × (z ≡ k)
-forward_tests true true false false true r w x y z W f M k q = (refl, refl, refl, (cc))
-forward_tests true true false false false r w x y z W f M k q = absurd (let o : ◌≡◌ {A = ℕ} 0 1 = cc in omega arith)
-forward_tests true true false true e r w x y z W f M k q = absurd (let o : ◌≡◌ {A = ℕ} 0 1 = cc in omega arith)
-forward_tests true true true d e r w x y z W f M k q = absurd (let o : ◌≡◌ {A = ℕ} 0 1 = cc in omega arith)
-forward_tests true false c d e r w x y z W f M k q = absurd (let o : ◌≡◌ {A = ℕ} 0 1 = cc in omega arith)
-forward_tests false b c d e r w x y z W f M k q = absurd (let o : ◌≡◌ {A = ℕ} 0 1 = cc in omega arith)
+-- ---- the tests that lead to an answer that is no refusal
+given : {A : Type 0} (passed : Bool) (x : Result A Refusal) (r : Refusal) (y : A) → cond passed x (Err r) ≡ Ok y → (passed ≡ true) × (x ≡ Ok y)
+given true x r y e = (refl, e)
+given false x r y e = absurd (cc)
+
+pub asked : (net : Network) (t : Table) (U D : ℕ) (stack : List ℕ) (y : Look) → lookup_of net t U D stack ≡ Ok y
+    → Packet net U D stack × (look_at net t U D (number net.p stack) ≡ Ok y)
+asked net t U D stack y e =
+    let a = given (eqb (refusal net t) 0) _ _ y e in
+    let b = given (ok_packet net U D stack) _ _ y a.1 in
+    (packet net t U D stack b.0, b.1)
+
+-- and those that lead to a row's own
+forward_tests : (c d e : Bool) (w x y z W f M k : ℕ)
+    → cond c (Ok Look.Delivered) (cond d (Err Refusal.NoRoute) (cond e (forward w x y z) (Err Refusal.Broken))) ≡ forward W f M k
+    → (c ≡ false) × (d ≡ false) × (z ≡ k)
+forward_tests false false true w x y z W f M k q =
+    let same : hop w x y z ≡ hop W f M k = cc in
+    (refl, refl, ap (λ (h : Hop). h.cost) same)
+forward_tests false false false w x y z W f M k q = absurd (cc)
+forward_tests false true e w x y z W f M k q = absurd (cc)
+forward_tests true d e w x y z W f M k q = absurd (cc)
 
 -- what a shown cost tells
 pub record Shown (net : Network) (t : Table) (U D : ℕ) (stack : List ℕ) (c : ℕ) : Type 0 where
@@ -67,17 +80,18 @@ pub record Shown (net : Network) (t : Table) (U D : ℕ) (stack : List ℕ) (c :
   pub cost : cost_of net t U D (number net.p stack) ≡ c
   pub priced : c ≢ no_row
 
-pub shown : (net : Network) (t : Table) (U D W f M c : ℕ) (stack : List ℕ) → lookup_of net t U D stack ≡ Look.Forward W f M c → Shown net t U D stack c
+pub shown : (net : Network) (t : Table) (U D W f M c : ℕ) (stack : List ℕ) → lookup_of net t U D stack ≡ forward W f M c → Shown net t U D stack c
 unfolding look_at
 shown net t U D W f M c stack e =
     let N = number net.p stack in
-    let q = forward_tests (eqb (refusal net t) 0) (ok_packet net U D stack) (home net U D N) (eqb (cost_of net t U D N) no_row) (ok_row net t U D N)
-    (refusal net t) (next_of net t U D N) (function_of net t U D N) (result_of net t U D N) (cost_of net t U D N) W f M c e in
+    let a = asked net t U D stack _ e in
+    let q = forward_tests (home net U D N) (eqb (cost_of net t U D N) no_row) (ok_row net t U D N) (next_of net t U D N) (function_of net t U D N)
+    (result_of net t U D N) (cost_of net t U D N) W f M c a.1 in
     record {
-      asked = packet net t U D stack q.0;
-      away = q.1;
-      cost = q.3;
-      priced = λ (z : c ≡ no_row). eqb-false (cost_of net t U D N) no_row q.2 (q.3 ∙ z);
+      asked = a.0;
+      away = q.0;
+      cost = q.2;
+      priced = λ (z : c ≡ no_row). eqb-false (cost_of net t U D N) no_row q.1 (q.2 ∙ z);
     }
 
 -- ---- and the other way round: what is answered where
@@ -92,37 +106,37 @@ module _ (net : Network) (ok : Network16 net) (t : Table) (r : Reached net t) (U
     pub away_row : home net U D N ≡ false → Away net U D N
     away_row e = record { node = k.node; destination = k.destination; stack = numbered net ok stack k.stack_ok; away = e }
 
-    pub looks_home : home net U D N ≡ true → lookup_of net t U D stack ≡ Look.Delivered
+    pub looks_home : home net U D N ≡ true → lookup_of net t U D stack ≡ Ok Look.Delivered
     unfolding look_at
     looks_home e = looks ∙ simp e
 
-    pub looks_none : home net U D N ≡ false → cost_of net t U D N ≡ no_row → lookup_of net t U D stack ≡ Look.Refused 6
+    pub looks_none : home net U D N ≡ false → cost_of net t U D N ≡ no_row → lookup_of net t U D stack ≡ Err Refusal.NoRoute
     unfolding look_at
     looks_none e c = looks ∙ simp (e, eq-eqb (cost_of net t U D N) no_row c)
 
     pub looks_on : home net U D N ≡ false → cost_of net t U D N ≢ no_row
-        → lookup_of net t U D stack ≡ Look.Forward (next_of net t U D N) (function_of net t U D N) (result_of net t U D N) (cost_of net t U D N)
+        → lookup_of net t U D stack ≡ forward (next_of net t U D N) (function_of net t U D N) (result_of net t U D N) (cost_of net t U D N)
     unfolding look_at
     looks_on e c = looks ∙ simp (e, ne_eqb (cost_of net t U D N) no_row c, row_ok net ok t r U D N (away_row e) c)
 
   -- a packet that is refused
-  looks_refused : ok_packet net U D stack ≡ false → lookup_of net t U D stack ≡ Look.Refused 4
+  looks_refused : ok_packet net U D stack ≡ false → lookup_of net t U D stack ≡ Err Refusal.Range
   looks_refused e = simp (eq-eqb (refusal net t) 0 (reached_refusal net ok r), e)
 
   -- no lookup answers 7
-  pub not_7 : lookup_of net t U D stack ≢ Look.Refused 7
+  pub not_7 : lookup_of net t U D stack ≢ Err Refusal.Broken
   not_7 = bool_cases (ok_packet net U D stack)
       (λ e. let k = packet net t U D stack e in
       bool_cases (home net U D N)
-      (λ h e7. let x = sym (looks_home k h) ∙ e7 in let o : ◌≡◌ {A = ℕ} 0 1 = cc in omega arith)
+      (λ h e7. cc (looks_home k h))
       (λ h. by_cases (ℕ_discrete (cost_of net t U D N) no_row)
-      (λ c e7. let x = sym (looks_none k h c) ∙ e7 in let o : ◌≡◌ {A = ℕ} 6 7 = cc in omega arith)
-      (λ c e7. let x = sym (looks_on k h c) ∙ e7 in let o : ◌≡◌ {A = ℕ} 0 1 = cc in omega arith)))
-      (λ e e7. let x = sym (looks_refused e) ∙ e7 in let o : ◌≡◌ {A = ℕ} 4 7 = cc in omega arith)
+      (λ c e7. cc (looks_none k h c))
+      (λ c e7. cc (looks_on k h c))))
+      (λ e e7. cc (looks_refused e))
 
   -- 6 is answered only where there is no cost
-  pub six_none : Packet net U D stack → lookup_of net t U D stack ≡ Look.Refused 6 → cost_of net t U D N ≡ no_row
+  pub six_none : Packet net U D stack → lookup_of net t U D stack ≡ Err Refusal.NoRoute → cost_of net t U D N ≡ no_row
   six_none k e6 = by_cases (ℕ_discrete (cost_of net t U D N) no_row) (λ c. c)
       (λ c. absurd (bool_cases (home net U D N)
-      (λ h. let x = sym (looks_home k h) ∙ e6 in let o : ◌≡◌ {A = ℕ} 0 1 = cc in omega arith)
-      (λ h. let x = sym (looks_on k h c) ∙ e6 in let o : ◌≡◌ {A = ℕ} 0 1 = cc in omega arith)))
+      (λ h. cc (looks_home k h))
+      (λ h. cc (looks_on k h c))))

@@ -11,8 +11,7 @@ use Rattle.relax.specs.Journeys.{Hop}
 use Rattle.relax.proofs.Sound.{sound}
 use Rattle.relax.proofs.Ceiling as theory
 use Rattle.stacks.proofs.Tests.{within}
-use Rattle.functions.specs.Answers.{applied_of}
-use Rattle.functions.specs.declared.After.{After}
+use Rattle.functions.specs.Answers.{applied_of, made}
 use Rattle.functions.proofs.Laws.{leads}
 use Rattle.network.specs.Network.{Network, present}
 use Rattle.network.proofs.Laws.{valid, present_nodes}
@@ -43,10 +42,10 @@ module _ (net : Network) (U D N : ℕ) (u : U < net.n) (n : Stack net N) where
   pub next_is : (t : Table) → 0 < result_of net t U D N → bridged.vertex_next net D t (vertex net U N) ≡ vertex net (next_of net t U D N)
       (result_of net t U D N)
   unfolding leads_to
-  next_is t made =
+  next_is t some =
       next_inside net D t (vertex net U N) (vertex_below net U N u n)
       ∙ ap₂ (λ (i k : ℕ). leads_to net (get_or t.way i 0) k) row_is (vertex_number_lem net U N n)
-      ∙ simp (lt-ltb 0 (result_of net t U D N) made)
+      ∙ simp (lt-ltb 0 (result_of net t U D N) some)
 
 module _ (net : Network) (ok : Network16 net) (t : Table) (r : Reached net t) (U D N : ℕ) where
   -- no cost is above the ceiling: there are at most 16,384 vertices
@@ -67,7 +66,7 @@ module _ (net : Network) (ok : Network16 net) (t : Table) (r : Reached net t) (U
     -- the hop is one that the node may perform, over a link
     pub can_it : can net U (function_of net t U D N) ≡ true
     pub linked : present net U (next_of net t U D N) ≡ true
-    pub makes : applied_of net.p net.h (function_of net t U D N) N ≡ After.Number (result_of net t U D N)
+    pub makes : applied_of net.p net.h (function_of net t U D N) N ≡ made (result_of net t U D N)
     -- the next row is one of the table's
     pub next_node : next_of net t U D N < net.n
     pub next_stack : Stack net (result_of net t U D N)

@@ -7,14 +7,15 @@ use mathlib.Core.Bool.{true, ◌&&◌}
 use lib.ListN.{get_or}
 use lib.Dec.{ltb}
 use borrow.Author.Tests.{ltb-true}
+use Rattle.std.specs.Prelude.{Err}
 use Rattle.lists.proofs.Tests.{both}
+use Rattle.refusal.specs.declared.Refusal.{Refusal}
 use Rattle.stacks.specs.Stacks.{ok_number}
 use Rattle.stacks.proofs.Tests.{within}
 use Rattle.network.specs.Network.{Network, stacks}
 use Rattle.table.specs.Table.{Table, no_row, ceiling, place}
 use Rattle.table.specs.Answers.{ok_message_in, waits_in, ok_message, waits, message_refusal}
 use Rattle.forward.specs.Answers.{lookup_of}
-use Rattle.forward.specs.declared.Look.{Look}
 use Rattle.promise.specs.Routes.{Network16, Reached}
 use Rattle.promise.proofs.Onward.{cost_most}
 use Rattle.promise.proofs.Looking.{not_7}
@@ -25,7 +26,7 @@ module _ (net : Network) (ok : Network16 net) where
       → get_or t.cost (place net U D N) 0 ≤ ceiling
   ceiling_kept t U D N r priced u d some most = cost_most net ok t r U D N priced u d (record { some = some; most = most })
 
-  pub never_7 : (t : Table) (U D : ℕ) (stack : List ℕ) → Reached net t → lookup_of net t U D stack ≢ Look.Refused 7
+  pub never_7 : (t : Table) (U D : ℕ) (stack : List ℕ) → Reached net t → lookup_of net t U D stack ≢ Err Refusal.Broken
   never_7 t U D stack r = not_7 net ok t r U D stack
 
   -- a message that waits is delivered

@@ -5,10 +5,11 @@ use native.Mathlib.Omega.{arith}
 use mathlib.Core.Path.{◌≡◌, refl, sym, ap, ◌∙◌, subst}
 use mathlib.Core.List.{List, [], ◌∷◌}
 use borrow.Author.Tests.{eq-eqb}
+use Rattle.std.specs.Prelude.{Option, Some, None}
 use Rattle.words.specs.Words.{first_in}
 use Rattle.words.specs.declared.Found.{Found}
 use Rattle.network.specs.Network.{Network}
-use Rattle.table.specs.Table.{Table, node_at, destination_at, number_at, delivered}
+use Rattle.table.specs.Table.{Table, node_at, destination_at, number_at}
 use Rattle.table.specs.Answers.{message_refusal}
 use Rattle.table.specs.Run.{RunOutcome, turn, steps, run_of}
 use Rattle.promise.specs.Routes.{Network16, Reached, most_deliveries, together, rounds, Quiet}
@@ -22,14 +23,13 @@ module _ (net : Network) (ok : Network16 net) where
   Ended k o = (o.refused ≡ 0) × (o.done < k → Quiet net o.table)
 
   turn_ended : (rest : Table → RunOutcome) (k : ℕ) → ((u : Table) → Reached net u → Ended k (rest u))
-      → (t : Table) → Reached net t → (f : Found) → first_in t.waiting ≡ f → Ended (suc k) (turn net rest t f)
+      → (t : Table) → Reached net t → (f : Option Found) → first_in t.waiting ≡ f → Ended (suc k) (turn net rest t f)
   unfolding Ended
-  turn_ended rest k on t r Found.Nowhere e = (refl, λ h. nowhere_quiet t.waiting e)
-  turn_ended rest k on t r (Found.At i U) e =
-      let z = found_goes net ok t r i U e in
-      let o = on (delivered net t (node_at net i) U (destination_at net i) (number_at net i)) (made net ok t (node_at net i) U (destination_at net i)
-      (number_at net i) r z) in
-      rw (eq-eqb (message_refusal net t (node_at net i) U (destination_at net i) (number_at net i)) 0 z) (o.0, λ h. o.1 (omega arith))
+  turn_ended rest k on t r None e = (refl, λ h. nowhere_quiet t.waiting e)
+  turn_ended rest k on t r (Some f) e =
+      let z = found_goes net ok t r f.word f.bit e in
+      let o = on _ (made net ok t (node_at net f.word) f.bit (destination_at net f.word) (number_at net f.word) r z) in
+      rw (eq-eqb (message_refusal net t (node_at net f.word) f.bit (destination_at net f.word) (number_at net f.word)) 0 z) (o.0, λ h. o.1 (omega arith))
 
   steps_ended : (k : ℕ) (t : Table) → Reached net t → Ended k (steps net k t)
   unfolding Ended
@@ -45,19 +45,18 @@ module _ (net : Network) (ok : Network16 net) where
   run_stops t k r = subst (λ (o : RunOutcome). o.done < k → Quiet net o.table) (sym (run_steps net ok t k r)) (steps_ended k t r).1
 
   -- ---- a run that goes on where another stopped
-  idle : (k : ℕ) (t : Table) → first_in t.waiting ≡ Found.Nowhere → (steps net k t).table ≡ t
+  idle : (k : ℕ) (t : Table) → first_in t.waiting ≡ None → (steps net k t).table ≡ t
   idle zero t e = refl
-  idle (suc k) t e = ap (λ (f : Found). (turn net (steps net k) t f).table) e
+  idle (suc k) t e = ap (λ (f : Option Found). (turn net (steps net k) t f).table) e
 
   turn_again : (a b : ℕ) → ((u : Table) → Reached net u → (steps net b (steps net a u).table).table ≡ (steps net (a + b) u).table)
-      → (t : Table) → Reached net t → (f : Found) → first_in t.waiting ≡ f
+      → (t : Table) → Reached net t → (f : Option Found) → first_in t.waiting ≡ f
       → (steps net b (turn net (steps net a) t f).table).table ≡ (turn net (steps net (a + b)) t f).table
-  turn_again a b on t r Found.Nowhere e = idle b t e
-  turn_again a b on t r (Found.At i U) e =
-      let z = found_goes net ok t r i U e in
-      rw (eq-eqb (message_refusal net t (node_at net i) U (destination_at net i) (number_at net i)) 0 z)
-      (on (delivered net t (node_at net i) U (destination_at net i) (number_at net i)) (made net ok t (node_at net i) U (destination_at net i)
-      (number_at net i) r z))
+  turn_again a b on t r None e = idle b t e
+  turn_again a b on t r (Some f) e =
+      let z = found_goes net ok t r f.word f.bit e in
+      rw (eq-eqb (message_refusal net t (node_at net f.word) f.bit (destination_at net f.word) (number_at net f.word)) 0 z)
+      (on _ (made net ok t (node_at net f.word) f.bit (destination_at net f.word) (number_at net f.word) r z))
 
   steps_again : (a b : ℕ) (t : Table) → Reached net t → (steps net b (steps net a t).table).table ≡ (steps net (a + b) t).table
   steps_again zero b t r = let e : b ≡ 0 + b = omega arith in ap (λ (k : ℕ). (steps net k t).table) e

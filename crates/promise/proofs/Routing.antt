@@ -10,8 +10,7 @@ use Rattle.relax.specs.Journeys as theory
 use Rattle.stacks.specs.Stacks.{ok_stack, number, stack_of}
 use Rattle.stacks.proofs.Laws.{number_in_range, stack_in_range, stack_of_number}
 use Rattle.functions.specs.Functions.{apply, becomes}
-use Rattle.functions.specs.Answers.{applied_of}
-use Rattle.functions.specs.declared.After.{After}
+use Rattle.functions.specs.Answers.{applied_of, made}
 use Rattle.functions.proofs.Laws.{leads, leading, stays_a_stack}
 use Rattle.network.specs.Network.{Network, present}
 use Rattle.network.proofs.Laws.{valid}
@@ -34,7 +33,7 @@ module _ (net : Network) (ok : Network16 net) (D : ℕ) (d : D < net.n) where
     result_fits : ok_stack net.p net.h result ≡ true
     result_fits = stays_a_stack net.p net.h (valid net ok.valid).size f stack result (can_function net U f can_it).1 fits makes
 
-    numbers_hop : applied_of net.p net.h f (number net.p stack) ≡ After.Number (number net.p result)
+    numbers_hop : applied_of net.p net.h f (number net.p stack) ≡ made (number net.p result)
     numbers_hop =
         let size = (valid net ok.valid).size in
         leading net.p net.h f (number net.p stack) (number net.p result) (record {

@@ -6,11 +6,12 @@ use mathlib.Core.Bool.{Bool, true, false, cond}
 use lib.ListN.{length, get_or}
 use lib.Dec.{eqb}
 use borrow.Author.Tests.{eqb-true, eq-eqb, lt-ltb, le-leb}
+use Rattle.std.specs.Prelude.{Option, Some, None}
 use Rattle.relax.specs.Journeys.{Waits}
 use Rattle.relax.proofs.Ends as theory
 use Rattle.bits.specs.Bits.{has}
 use Rattle.bits.proofs.LowestBit.{lowest_has}
-use Rattle.words.specs.Words.{first_in}
+use Rattle.words.specs.Words.{found_at, first_in}
 use Rattle.words.specs.declared.Found.{Found}
 use Rattle.words.proofs.Answers.{Here, first_at, first_whole}
 use Rattle.network.specs.Network.{Network, stacks, present}
@@ -38,18 +39,21 @@ module _ (net : Network) (ok : Network16 net) where
   -- ---- so a run from t, or from a table s after it, is more deliveries
   module _ (t : Table) (r : Reached net t) where
     turn_later : (rest : Table → RunOutcome) → ((s : Table) → Later net t s → Later net t (rest s).table) → (s : Table) → Later net t s
-        → (f : Found) → Later net t (turn net rest s f).table
-    turn_later rest on s l Found.Nowhere = l
-    turn_later rest on s l (Found.At i U) = go (eqb (message_refusal net s Q U D N) 0) refl
+        → (f : Option Found) → Later net t (turn net rest s f).table
+    turn_later rest on s l None = l
+    turn_later rest on s l (Some f) = go (eqb (message_refusal net s Q U D N) 0) refl
       where
         Q : ℕ
-        Q = node_at net i
+        Q = node_at net f.word
+
+        U : ℕ
+        U = f.bit
 
         D : ℕ
-        D = destination_at net i
+        D = destination_at net f.word
 
         N : ℕ
-        N = number_at net i
+        N = number_at net f.word
 
         go : (b : Bool) → eqb (message_refusal net s Q U D N) 0 ≡ b
             → Later net t (cond b (one_more (offers_taken net s Q U D N) (rest (delivered net s Q U D N))) (ends (message_refusal net s Q U D N) s)).table
@@ -98,7 +102,7 @@ module _ (net : Network) (ok : Network16 net) where
     )
 
   -- ---- so the message that a turn finds is delivered
-  pub found_goes : (t : Table) → Reached net t → (i U : ℕ) → first_in t.waiting ≡ Found.At i U
+  pub found_goes : (t : Table) → Reached net t → (i U : ℕ) → first_in t.waiting ≡ found_at i U
       → message_refusal net t (node_at net i) U (destination_at net i) (number_at net i) ≡ 0
   found_goes t r i U e = goes_through t r (node_at net i) (destination_at net i) (number_at net i) U row.node row.destination row.stack set
     where

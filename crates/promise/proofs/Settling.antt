@@ -9,6 +9,7 @@ use mathlib.Core.Logic.{by_cases}
 use mathlib.Core.Bool.{cond}
 use lib.Dec.{ltb}
 use borrow.Author.Tests.{eq-eqb, lt-ltb, le-ltb}
+use Rattle.std.specs.Prelude.{Option, Some, None}
 use Rattle.relax.specs.Journeys.{sum, measure, bound}
 use Rattle.relax.proofs.Sum.{sum_lt, sum_most}
 use Rattle.relax.proofs.Laws.{same_path}
@@ -85,14 +86,13 @@ module _ (net : Network) where
 
     -- ---- a turn ends the run quiet, or leaves less to do
     turn_settles : (rest : Table → RunOutcome) (k : ℕ) → ((u : Table) → Reached net u → total u < k → Quiet net (rest u).table)
-        → (t : Table) → Reached net t → total t < suc k → (f : Found) → first_in t.waiting ≡ f → Quiet net (turn net rest t f).table
-    turn_settles rest k on t r h Found.Nowhere e = nowhere_quiet t.waiting e
-    turn_settles rest k on t r h (Found.At i U) e =
-        let z = found_goes net ok t r i U e in
-        let u = delivered net t (node_at net i) U (destination_at net i) (number_at net i) in
-        rw (eq-eqb (message_refusal net t (node_at net i) U (destination_at net i) (number_at net i)) 0 z)
-        (on u (made net ok t (node_at net i) U (destination_at net i) (number_at net i) r z)
-        (omega (arith, total_falls r (node_at net i) U (destination_at net i) (number_at net i) z)))
+        → (t : Table) → Reached net t → total t < suc k → (f : Option Found) → first_in t.waiting ≡ f → Quiet net (turn net rest t f).table
+    turn_settles rest k on t r h None e = nowhere_quiet t.waiting e
+    turn_settles rest k on t r h (Some f) e =
+        let z = found_goes net ok t r f.word f.bit e in
+        rw (eq-eqb (message_refusal net t (node_at net f.word) f.bit (destination_at net f.word) (number_at net f.word)) 0 z)
+        (on _ (made net ok t (node_at net f.word) f.bit (destination_at net f.word) (number_at net f.word) r z)
+        (omega (arith, total_falls r (node_at net f.word) f.bit (destination_at net f.word) (number_at net f.word) z)))
 
     steps_settle : (k : ℕ) (t : Table) → Reached net t → total t < k → Quiet net (steps net k t).table
     steps_settle zero t r h = absurd (omega arith)

@@ -10,8 +10,7 @@ use lib.Dec.{ltb, eqb}
 use borrow.Author.Tests.{ltb-true}
 use Rattle.lists.proofs.Tests.{bool_cases, both}
 use Rattle.relax.specs.Graph.{wins}
-use Rattle.functions.specs.Answers.{applied_of, number_after}
-use Rattle.functions.specs.declared.After.{After}
+use Rattle.functions.specs.Answers.{applied_of, number_after, made}
 use Rattle.network.specs.Network.{Network, present}
 use Rattle.network.proofs.Laws.{valid}
 use Rattle.gateways.specs.Gateways.{can}
@@ -32,7 +31,7 @@ module _ (net : Network) where
   pub record Leading (U N way : ℕ) : Type 0 where
     pub can_it : can net U (way % 256) ≡ true
     pub linked : present net U (way / 256) ≡ true
-    pub makes : applied_of net.p net.h (way % 256) N ≡ After.Number (number_after (applied_of net.p net.h (way % 256) N))
+    pub makes : applied_of net.p net.h (way % 256) N ≡ made (number_after (applied_of net.p net.h (way % 256) N))
 
   -- a way is made of the next node and a function below 256
   leading_by : (U N W f M : ℕ) → f < 192 → present net U W ≡ true → By net U N M f → Leading U N (256 * W + f)
@@ -42,7 +41,7 @@ module _ (net : Network) where
       record {
         can_it = rw function by.has_it;
         linked = rw node linked;
-        makes = rw function (by.makes ∙ ap (λ (a : After). After.Number (number_after a)) (sym by.makes));
+        makes = rw function (by.makes ∙ ap (λ (m : ℕ). made m) (ap number_after (sym by.makes)));
       }
 
   -- the row of U for the destination D and the stack number N is one of the table's, and not a home

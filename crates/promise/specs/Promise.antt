@@ -1,13 +1,13 @@
 -- THE PROMISES. For a network that no call refuses, and every table that deliveries in any order make of its fresh one. proofs/Kept.antt keeps them.
-use Rattle.std.specs.Prelude.{ℕ, ◌+◌, ◌≤◌, ◌<◌, ◌≡◌, ◌≢◌, ◌↔◌, ◌⊎◌, List, [], ◌∷◌, true, get_or}
+use Rattle.std.specs.Prelude.{ℕ, ◌+◌, ◌≤◌, ◌<◌, ◌≡◌, ◌≢◌, ◌↔◌, ◌⊎◌, List, [], ◌∷◌, true, get_or, Ok, None}
 use Rattle.stacks.specs.Stacks.{number}
 use Rattle.network.specs.Network.{Network, stacks}
 use Rattle.gateways.specs.Gateways.{accepts}
 use Rattle.table.specs.Table.{Table, no_row, no_way, ceiling, place}
 use Rattle.table.specs.Answers.{refusal, fresh_table, first_answer, ok_message, waits, message_refusal}
 use Rattle.table.specs.Run.{run_of}
-use Rattle.table.specs.declared.First.{First}
 use Rattle.packet.specs.Packet.{ok_packet}
+use Rattle.forward.specs.Forward.{forward}
 use Rattle.forward.specs.Answers.{lookup_of, look_refusal}
 use Rattle.carry.specs.Carry.{carry_of}
 use Rattle.forward.specs.declared.Look.{Look}
@@ -21,28 +21,28 @@ module _ (net : Network) where
     -- DEMAND 3. "If a packet's lookup shows cost c, it can be carried on hop by hop, with more deliveries between the hops", before the first
     -- hop too, ".. and it arrives .. having spent at most c."
     pub carried_on : (t u : Table) (U D W f M c : ℕ) (stack : List ℕ) → Reached net t
-        → lookup_of net t U D stack ≡ Look.Forward W f M c → Later net t u → Carried net D u U stack c
+        → lookup_of net t U D stack ≡ forward W f M c → Later net t u → Carried net D u U stack c
     -- Carry does so with no delivery between the hops: "it arrives with a single header its destination accepts, having spent at most c".
     pub carries : (t : Table) (U D W f M c : ℕ) (stack : List ℕ) → Reached net t
-        → lookup_of net t U D stack ≡ Look.Forward W f M c → Arrives net D c (carry_of net t U D stack 16384)
+        → lookup_of net t U D stack ≡ forward W f M c → Arrives net D c (carry_of net t U D stack 16384)
     -- "Delivered if U is D and the stack is one protocol that D accepts, whatever the table holds", and only there: a route of zero hops.
-    pub delivered_there : (t : Table) (D x : ℕ) → refusal net t ≡ 0 → accepts net D x ≡ true → lookup_of net t D D (x ∷ []) ≡ Look.Delivered
-    pub delivered_here : (t : Table) (U D : ℕ) (stack : List ℕ) → lookup_of net t U D stack ≡ Look.Delivered → Route net D U stack 0
+    pub delivered_there : (t : Table) (D x : ℕ) → refusal net t ≡ 0 → accepts net D x ≡ true → lookup_of net t D D (x ∷ []) ≡ Ok Look.Delivered
+    pub delivered_here : (t : Table) (U D : ℕ) (stack : List ℕ) → lookup_of net t U D stack ≡ Ok Look.Delivered → Route net D U stack 0
     -- "Once no message waits, c is the least cost of any route within that bound":
     -- a route attains it, and none is cheaper,
     pub attained : (t : Table) (U D W f M c : ℕ) (stack : List ℕ) → Reached net t → Quiet net t
-        → lookup_of net t U D stack ≡ Look.Forward W f M c → Route net D U stack c
+        → lookup_of net t U D stack ≡ forward W f M c → Route net D U stack c
     pub least : (t : Table) (U D W f M c cost : ℕ) (stack : List ℕ) → Reached net t → Quiet net t
-        → lookup_of net t U D stack ≡ Look.Forward W f M c → Route net D U stack cost → c ≤ cost
+        → lookup_of net t U D stack ≡ forward W f M c → Route net D U stack cost → c ≤ cost
     -- "and 'no route' is said only where no such route exists", and everywhere there.
     pub no_route : (t : Table) (U D : ℕ) (stack : List ℕ) → Reached net t → Quiet net t → ok_packet net U D stack ≡ true
         → (look_refusal (lookup_of net t U D stack) ≡ 6) ↔ ((cost : ℕ) → ¬ Route net D U stack cost)
     -- Where there is a route the lookup answers, with a cost no greater than the route's,
     pub found : (t : Table) (U D cost : ℕ) (stack : List ℕ) → Reached net t → Quiet net t → Route net D U stack cost
-        → (lookup_of net t U D stack ≡ Look.Delivered)
-        ⊎ ((W : ℕ) × (f : ℕ) × (M : ℕ) × (c : ℕ) × (lookup_of net t U D stack ≡ Look.Forward W f M c) × (c ≤ cost))
+        → (lookup_of net t U D stack ≡ Ok Look.Delivered)
+        ⊎ ((W : ℕ) × (f : ℕ) × (M : ℕ) × (c : ℕ) × (lookup_of net t U D stack ≡ forward W f M c) × (c ≤ cost))
     -- and "no message waits" can be asked: first waiting says quiet exactly there.
-    pub quiet_said : (t : Table) → Reached net t → (first_answer net t ≡ First.Quiet) ↔ Quiet net t
+    pub quiet_said : (t : Table) → Reached net t → (first_answer net t ≡ Ok None) ↔ Quiet net t
     -- WHAT THE ROWS HOLD. The way is "65,535 where there is no row", about which no message waits,
     pub no_way_lem : (t : Table) (U D N : ℕ) → Reached net t → get_or t.cost (place net U D N) 0 ≡ no_row → U < net.n → D < net.n → 1 ≤ N → N ≤ stacks net
         → (get_or t.way (place net U D N) 0 ≡ no_way) × (get_or t.waiting (place net U D N) 0 ≡ 0)

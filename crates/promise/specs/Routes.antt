@@ -1,5 +1,5 @@
 -- What the promises speak of: routes, tables that can come to be, and packets that are carried on. In the words of the specification.
-use Rattle.std.specs.Prelude.{ℕ, suc, ◌+◌, ◌-◌, ◌*◌, ◌≤◌, ◌≡◌, List, [], ◌∷◌, true}
+use Rattle.std.specs.Prelude.{ℕ, suc, ◌+◌, ◌-◌, ◌*◌, ◌≤◌, ◌≡◌, List, [], ◌∷◌, true, Ok}
 use Rattle.stacks.specs.Stacks.{ok_stack, number}
 use Rattle.functions.specs.Functions.{apply, becomes}
 use Rattle.words.specs.Words.{ones_in}
@@ -9,6 +9,7 @@ use Rattle.table.specs.Table.{Table, no_row, rows_each, fresh}
 use Rattle.table.specs.Answers.{deliver_refusal, deliver_table}
 use Rattle.table.specs.Run.{run_of}
 use Rattle.carry.specs.Carry.{Journey}
+use Rattle.forward.specs.Forward.{forward}
 use Rattle.forward.specs.Answers.{lookup_of}
 use Rattle.forward.specs.declared.Look.{Look}
 
@@ -70,9 +71,9 @@ module _ (net : Network) where
   -- "it can be carried on hop by hop, with more deliveries between the hops: each hop is one its gateway may perform, the stack stays within
   -- the height bound, no lookup refuses, and it arrives with a single header its destination accepts, having spent at most c"
   pub data Carried (D : ℕ) : Table → ℕ → List ℕ → ℕ → Type 0 where
-    arrived : {t : Table} {c : ℕ} (x : ℕ) → lookup_of net t D D (x ∷ []) ≡ Look.Delivered → accepts net D x ≡ true → Carried D t D (x ∷ []) c
+    arrived : {t : Table} {c : ℕ} (x : ℕ) → lookup_of net t D D (x ∷ []) ≡ Ok Look.Delivered → accepts net D x ≡ true → Carried D t D (x ∷ []) c
     onward : {t : Table} {U c : ℕ} {stack : List ℕ} (W f cost : ℕ) (result : List ℕ)
-        → lookup_of net t U D stack ≡ Look.Forward W f (number net.p result) cost
+        → lookup_of net t U D stack ≡ forward W f (number net.p result) cost
         → can net U f ≡ true → present net U W ≡ true → apply net.h f stack ≡ becomes result → ok_stack net.p net.h result ≡ true
         → weight net U f W ≤ c
         → ((u : Table) → Later t u → Carried D u W result (c - weight net U f W))
