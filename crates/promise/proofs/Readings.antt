@@ -1,6 +1,6 @@
 -- The readings of the answers that are enums: "A refusal returns its number and zeros". The number read from an answer is the refusal of its call,
 -- and the values read with it are the call's, or zeros where it is refused.
-use Prim.Native.Nat.{ℕ}
+use Prim.Native.Nat.{ℕ, suc}
 use native.Mathlib.Decide.{ℕ_discrete}
 use native.Mathlib.Omega.{arith}
 use mathlib.Core.Path.{◌≡◌, refl, sym, ap, ◌∙◌, subst}
@@ -164,8 +164,10 @@ refused_is (Ok (Look.Forward hop)) r e = absurd (number_some r (sym e))
 refused_is (Err q) r e = ap Err (sym (named_number q) ∙ ap named e ∙ named_number r)
 
 -- a refused lookup, and one that is delivered, has zeros
-pub refused_zeros : (l : Result Look Refusal) (r : Refusal) → look_refusal l ≡ refusal_number r → look_onward l ≡ look_onward (Ok Look.Delivered)
-refused_zeros l r e = ap look_onward (refused_is l r e)
+pub refused_zeros : (l : Result Look Refusal) (r : ℕ) → look_refusal l ≡ suc r → look_onward l ≡ look_onward (Ok Look.Delivered)
+refused_zeros (Ok Look.Delivered) r e = absurd (omega arith)
+refused_zeros (Ok (Look.Forward hop)) r e = absurd (omega arith)
+refused_zeros (Err q) r e = refl
 
 pub read_as : {A : Type 0} (l : Result Look Refusal) (r : Refusal) → (l ≡ Err r) ↔ A → (look_refusal l ≡ refusal_number r) ↔ A
 read_as l r both = (λ e. both.0 (refused_is l r e), λ a. ap look_refusal (both.1 a))
