@@ -4,14 +4,15 @@ use native.Mathlib.Omega.{arith}
 use mathlib.Core.Path.{◌≡◌, refl}
 use mathlib.Core.Bool.{Bool, true, false, cond}
 use lib.Dec.{eqb}
-use borrow.Author.Tests.{eqb-true, eqb-false}
+use borrow.Author.Tests.{eqb-true}
+use Rattle.std.specs.Prelude.{Option, Some, None, Ok, Err}
+use Rattle.refusal.specs.Numbers.{named}
 use Rattle.words.specs.Words.{first_in}
 use Rattle.words.specs.declared.Found.{Found}
 use Rattle.network.specs.Network.{Network, stacks}
 use Rattle.table.specs.Table.{Table, node_at, destination_at, number_at, offers_taken, delivered}
 use Rattle.table.specs.Answers.{message_refusal_in, refusal, ok_message, waits, ok_sender, message_refusal, deliver_refusal, deliver_answer}
 use Rattle.table.specs.Run.{RunOutcome, one_more, ends, turn, steps, run_of}
-use Rattle.table.specs.declared.Delivered.{Delivered}
 use Rattle.table.proofs.Begins.{rows_few}
 use Rattle.table.proofs.Refusals.{refusal_few, ready_then}
 use Rattle.deliver_exports.specs.Ranges.{DeliveredFits}
@@ -41,25 +42,25 @@ module _ (net : Network) (t : Table) (Q U D N : ℕ) where
   pub deliver_fits : DeliveredFits (deliver_answer net t Q U D N)
   deliver_fits = go (eqb (deliver_refusal net t Q U D N) 0) refl
     where
-      go : (b : Bool) → eqb (deliver_refusal net t Q U D N) 0 ≡ b → DeliveredFits (cond b (Delivered.Rows (offers_taken net t Q U D N))
-          (Delivered.Refused (deliver_refusal net t Q U D N)))
+      go : (b : Bool) → eqb (deliver_refusal net t Q U D N) 0 ≡ b → DeliveredFits (cond b (Ok (offers_taken net t Q U D N))
+          (Err (named (deliver_refusal net t Q U D N))))
       go true e =
           let r = ready_then net t (deliver_few.1 (eqb-true (deliver_refusal net t Q U D N) 0 e)) in
           omega (arith, offers_most net t Q U D N, (rows_few net t (stacks net) r).1)
-      go false e = record { some = omega (arith, eqb-false (deliver_refusal net t Q U D N) 0 e); most = omega (arith, deliver_few.0) }
+      go false e = tt
 
 -- ---- how a run ends
 module _ (net : Network) where
-  turn_few : (rest : Table → RunOutcome) → ((t : Table) → (rest t).refused ≤ 7) → (t : Table) (f : Found) → (turn net rest t f).refused ≤ 7
-  turn_few rest less t Found.Nowhere = omega arith
-  turn_few rest less t (Found.At i U) = go (eqb (message_refusal net t (node_at net i) U (destination_at net i) (number_at net i)) 0)
+  turn_few : (rest : Table → RunOutcome) → ((t : Table) → (rest t).refused ≤ 7) → (t : Table) (f : Option Found) → (turn net rest t f).refused ≤ 7
+  turn_few rest less t None = omega arith
+  turn_few rest less t (Some f) =
+      go (node_at net f.word) f.bit (destination_at net f.word) (number_at net f.word) (eqb (message_refusal net t (node_at net f.word) f.bit
+      (destination_at net f.word) (number_at net f.word)) 0)
     where
-      go : (b : Bool) → (cond b
-          (one_more (offers_taken net t (node_at net i) U (destination_at net i) (number_at net i))
-          (rest (delivered net t (node_at net i) U (destination_at net i) (number_at net i))))
-          (ends (message_refusal net t (node_at net i) U (destination_at net i) (number_at net i)) t)).refused ≤ 7
-      go true = less (delivered net t (node_at net i) U (destination_at net i) (number_at net i))
-      go false = step_few net t (node_at net i) U (destination_at net i) (number_at net i)
+      go : (Q U D N : ℕ) (b : Bool) → (cond b (one_more (offers_taken net t Q U D N) (rest (delivered net t Q U D N)))
+          (ends (message_refusal net t Q U D N) t)).refused ≤ 7
+      go Q U D N true = less (delivered net t Q U D N)
+      go Q U D N false = step_few net t Q U D N
 
   steps_few : (k : ℕ) (t : Table) → (steps net k t).refused ≤ 7
   steps_few zero t = omega arith

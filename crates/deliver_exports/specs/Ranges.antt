@@ -1,8 +1,7 @@
 -- The range in which nothing is lost: every answer of a delivery is within it (proofs/Answered.antt).
-use Rattle.std.specs.Prelude.{◌<◌, ◌^◌}
-use Rattle.table.specs.declared.Delivered.{Delivered}
-use Rattle.packing.specs.Ranges.{RefusalFits}
+use Rattle.std.specs.Prelude.{ℕ, ◌<◌, ◌^◌, Result, Ok, Err}
+use Rattle.refusal.specs.declared.Refusal.{Refusal}
 
-abbrev pub DeliveredFits : Delivered → Type 0
-DeliveredFits (Delivered.Rows rows) = rows < 2 ^ 62
-DeliveredFits (Delivered.Refused refusal) = RefusalFits refusal
+abbrev pub DeliveredFits : Result ℕ Refusal → Type 0
+DeliveredFits (Ok rows) = rows < 2 ^ 62
+DeliveredFits (Err refusal) = Unit {0}

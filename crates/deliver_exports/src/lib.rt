@@ -8,17 +8,10 @@ ghost use Rattle.table.specs.Table.{table_of};
 ghost use Rattle.deliver_exports.specs.Packing.{pack_delivered};
 ghost use Rattle.deliver_exports.specs.Run.{RunExported};
 
-use packing::{packed_end, packed_refused};
-use table::Delivered;
-
-fn packed_delivered(answer: Delivered) -> u64
-    ensures { result ≡ pack_delivered answer }
-{
-    match answer {
-        Delivered::Rows(rows) => rows as u64,
-        Delivered::Refused(refusal) => packed_refused(refusal),
-    }
-}
+use network::Network;
+use packing::{packed, packed_end, packed_refused};
+use refusal::Refusal;
+use table::{Message, TableMut};
 
 // Delivers one message; answers how many rows took an offer.
 #[unsafe(no_mangle)]
@@ -41,20 +34,20 @@ pub extern "C" fn bannogwy_deliver(
         × (table_of cost.new way.new waiting.new ≡ deliver_table
         (network_of n p h links.now functions.now) (table_of cost.old way.old waiting.old) sender receiver destination number) }
 {
-    packed_delivered(deliver::deliver(
+    let net = Network {
         n,
         p,
         h,
         links,
         functions,
-        cost,
-        way,
-        waiting,
+    };
+    let message = Message {
         sender,
         receiver,
         destination,
         number,
-    ))
+    };
+    packed(deliver::deliver(&net, &mut TableMut { cost, way, waiting }, message))
 }
 
 // Delivers until quiet or until `limit` are done; the numbers of deliveries and of offers go into `answer`.
@@ -75,10 +68,17 @@ pub extern "C" fn bannogwy_run(
         result (table_of cost.new way.new waiting.new) answer.new }
 {
     if answer.len() < 2 {
-        return packed_refused(9);
+        return packed_refused(u32::from(Refusal::NoRoom));
     }
-    let ran = run::run(n, p, h, links, functions, cost, way, waiting, limit);
-    answer[0] = ran.done as u64;
+    let net = Network {
+        n,
+        p,
+        h,
+        links,
+        functions,
+    };
+    let ran = run::run(&net, &mut TableMut { cost, way, waiting }, limit);
+    answer[0] = u64::from(ran.done);
     answer[1] = ran.offers;
-    packed_end(ran.refused)
+    packed_end(ran.refused.map_or(0, u32::from))
 }
