@@ -1,66 +1,97 @@
 // Whether the header at s is right, test by test in the order of the refusals; e is where what holds it ends.
-ghost use Rattle.std.specs.Prelude.{◌≡◌, ◌+◌, ◌*◌, ◌≤◌, ◌<◌, ◌&&◌, leb, length, true};
-ghost use Rattle.header.specs.Fields.{ok_room, ok_version, sum};
-ghost use Rattle.header.specs.Answers.{rest_refusal};
+ghost use Rattle.std.specs.Prelude.{◌≡◌, ◌+◌, ◌*◌, ◌≤◌};
+ghost use Rattle.header.specs.Fields.{header_length, ok_checksum, ok_header, ok_length, ok_room, ok_version, ok_whole, sum};
+ghost use Rattle.header.specs.Answers.{header_refusal};
 ghost use Rattle.header.specs.Steps.{verdict};
 
-use crate::fields::{header_length, packet_length, pair_at, shortest, version_at};
+use crate::fields::Bytes;
 use refusal::Refusal;
 
-// The one's complement sum of the first `count` 16-bit words: a carry out of the top is added at the bottom.
-#[tactic(auto, unfolding(crate::specs::Fields::plus))]
-fn summed(packet: &[u8], s: usize, count: usize) -> usize
-    requires { (s + 2 * count ≤ length packet.now) × (count ≤ 30) }
-    ensures { result ≡ sum packet.now s count }
-{
-    let mut total = 0;
-    for i in 0..count {
-        let both = total + pair_at(packet, s, 2 * i);
-        total = both % 65536 + both / 65536;
+impl<'a> Bytes<'a> {
+    #[tactic(auto, unfolding(crate::specs::Fields::ok_room))]
+    fn has_room(&self) -> bool
+        ensures { result ≡ ok_room self.now.packet.now self.now.s self.now.e }
+    {
+        self.shortest() <= self.e - self.s
     }
-    total
-}
 
-// Whether what holds the header is in the packet and long enough for the shortest header.
-#[tactic(auto, unfolding(crate::specs::Fields::ok_room, crate::specs::Fields::shortest))]
-pub(crate) fn has_room(packet: &[u8], s: usize, e: usize) -> bool
-    ensures { (result ≡ leb e (length packet.now) && ok_room packet.now s e) × (result ≡ true → (s + 20 ≤ e) × (e ≤ length packet.now)) }
-{
-    e <= packet.len() && s < e && shortest(packet, s) <= e - s
-}
+    #[tactic(auto, unfolding(crate::specs::Fields::ok_version))]
+    fn version_fits(&self, announced: usize) -> bool
+        ensures { result ≡ ok_version self.now.packet.now self.now.s announced }
+    {
+        let version = self.version();
+        if announced == 0 {
+            return (version == 4) | (version == 6);
+        }
+        version == announced
+    }
 
-#[tactic(auto, unfolding(crate::specs::Fields::ok_version))]
-pub(crate) fn version_fits(packet: &[u8], s: usize, announced: usize) -> bool
-    requires { s < length packet.now }
-    ensures { result ≡ ok_version packet.now s announced }
-{
-    let version = version_at(packet, s);
-    if announced == 0 {
-        return (version == 4) | (version == 6);
+    #[tactic(auto, unfolding(crate::specs::Fields::ok_header))]
+    fn header_fits(&self) -> bool
+        ensures { result ≡ ok_header self.now.packet.now self.now.s }
+    {
+        let header = self.header_length();
+        self.version() == 6 || (20 <= header && header <= self.packet_length())
     }
-    version == announced
-}
 
-// The tests from the header length on. (Version 6 passes all but that of the packet's length.)
-#[tactic(auto, unfolding(crate::specs::Fields::ok_header, crate::specs::Fields::ok_length, crate::specs::Fields::ok_checksum, crate::specs::Fields::ok_whole))]
-pub(crate) fn rest_judged(packet: &[u8], s: usize, e: usize) -> Result<(), Refusal>
-    requires { (s + 20 ≤ e) × (e ≤ length packet.now) }
-    ensures { result ≡ verdict (rest_refusal packet.now s e) }
-{
-    let four = version_at(packet, s) != 6;
-    let header = header_length(packet, s);
-    let long = packet_length(packet, s);
-    if four && (header < 20 || long < header) {
-        return Err(Refusal::Header);
+    #[tactic(auto, unfolding(crate::specs::Fields::ok_length))]
+    fn length_fits(&self) -> bool
+        ensures { result ≡ ok_length self.now.packet.now self.now.s self.now.e }
+    {
+        self.packet_length() <= self.e - self.s
     }
-    if e - s < long {
-        return Err(Refusal::Beyond);
+
+    // The one's complement sum of the first `count` 16-bit words: a carry out of the top is added at the bottom.
+    #[tactic(auto, unfolding(crate::specs::Fields::plus))]
+    fn sum(&self, count: usize) -> usize
+        requires { self.now.s + 2 * count ≤ self.now.e }
+        ensures { result ≡ sum self.now.packet.now self.now.s count }
+    {
+        let mut total = 0;
+        for i in 0..count {
+            let both = total + self.pair(2 * i);
+            total = both % 65536 + both / 65536;
+        }
+        total
     }
-    if four && summed(packet, s, header / 2) != 65535 {
-        return Err(Refusal::Checksum);
+
+    #[tactic(auto, unfolding(crate::specs::Fields::ok_checksum))]
+    fn checksum_fits(&self) -> bool
+        requires { self.now.s + header_length self.now.packet.now self.now.s ≤ self.now.e }
+        ensures { result ≡ ok_checksum self.now.packet.now self.now.s }
+    {
+        self.version() == 6 || self.sum(self.header_length() / 2) == 65535
     }
-    if four && pair_at(packet, s, 6) % 16384 != 0 {
-        return Err(Refusal::Fragment);
+
+    #[tactic(auto, unfolding(crate::specs::Fields::ok_whole))]
+    fn is_whole(&self) -> bool
+        ensures { result ≡ ok_whole self.now.packet.now self.now.s }
+    {
+        self.version() == 6 || self.pair(6) % 16384 == 0
     }
-    Ok(())
+
+    #[tactic(auto, using(crate::proofs::Lengths::header_fits, crate::proofs::Lengths::length_fits), unfolding(crate::specs::Answers::header_refusal))]
+    pub(crate) fn judged(&self, announced: usize) -> Result<(), Refusal>
+        ensures { result ≡ verdict (header_refusal self.now.packet.now self.now.s announced self.now.e) }
+    {
+        if !self.has_room() {
+            return Err(Refusal::Short);
+        }
+        if !self.version_fits(announced) {
+            return Err(Refusal::WrongVersion);
+        }
+        if !self.header_fits() {
+            return Err(Refusal::Header);
+        }
+        if !self.length_fits() {
+            return Err(Refusal::Beyond);
+        }
+        if !self.checksum_fits() {
+            return Err(Refusal::Checksum);
+        }
+        if !self.is_whole() {
+            return Err(Refusal::Fragment);
+        }
+        Ok(())
+    }
 }

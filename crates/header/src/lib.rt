@@ -7,8 +7,7 @@ ghost use Rattle.header.specs.Answers.{header_of};
 mod fields;
 mod judged;
 
-use fields::{announced_by, header_length, packet_length, protocol};
-use judged::{has_room, rest_judged, version_fits};
+use fields::Bytes;
 use refusal::Refusal;
 
 /// A header that is right.
@@ -25,21 +24,20 @@ pub struct Header {
 }
 
 // The header that starts at s, announced so (0 for the outermost), in what ends at e.
-#[tactic(auto, unfolding(crate::specs::Answers::refusal_of, crate::specs::Answers::header_refusal))]
+#[tactic(auto, using(crate::proofs::Lengths::room_20), unfolding(crate::specs::Answers::refusal_of, crate::specs::Answers::header_refusal))]
 pub fn header_at(packet: &[u8], s: usize, announced: usize, e: usize) -> Result<Header, Refusal>
     ensures { result ≡ header_of packet.now s announced e }
 {
-    if !has_room(packet, s, e) {
+    // Bytes that the packet does not have, or too few for any header.
+    if packet.len() < e || e < s || e - s < 20 {
         return Err(Refusal::Short);
     }
-    if !version_fits(packet, s, announced) {
-        return Err(Refusal::WrongVersion);
-    }
-    rest_judged(packet, s, e)?;
+    let bytes = Bytes { packet, s, e };
+    bytes.judged(announced)?;
     Ok(Header {
-        protocol: protocol(packet, s),
-        from: s + header_length(packet, s),
-        to: s + packet_length(packet, s),
-        after: announced_by(packet, s),
+        protocol: bytes.protocol(),
+        from: s + bytes.header_length(),
+        to: s + bytes.packet_length(),
+        after: bytes.announces(),
     })
 }
