@@ -2,18 +2,19 @@
 use Prim.Native.Nat.{ℕ}
 use mathlib.Core.Path.{◌≡◌, sym, ◌∙◌}
 use mathlib.Core.List.{List}
+use Rattle.std.specs.Prelude.{Result}
+use Rattle.refusal.specs.declared.Refusal.{Refusal}
 use Rattle.stacks.specs.Answers.{count_of, number_of, height_of, out_of}
 use Rattle.functions.specs.Answers.{applied_of, inverse_of}
 use Rattle.network.specs.Network.{Network}
 use Rattle.table.specs.Table.{Table}
 use Rattle.table.specs.Answers.{fresh_answer, fresh_table, count_answer, first_answer, deliver_answer, deliver_table}
-use Rattle.table.specs.declared.Delivered.{Delivered}
 use Rattle.table.specs.declared.Ran.{Ran}
 use Rattle.forward.specs.Answers.{lookup_of}
 use Rattle.carry.specs.Carry.{carry_of}
 use Rattle.tally.specs.Tally.{added_to, after_delivery, after_run}
 use Rattle.tally.specs.declared.Tally.{Tally}
-use Rattle.packing.specs.Packing.{pack_refused, pack_end}
+use Rattle.packing.specs.Packing.{pack_result, pack_refused, pack_end}
 use Rattle.stack_exports.specs.Packing.{pack_answer, pack_after}
 use Rattle.table_exports.specs.Packing.{pack_counted, pack_first}
 use Rattle.deliver_exports.specs.Packing.{pack_delivered}
@@ -22,7 +23,13 @@ use Rattle.packet_exports.specs.Packing.{pack_look}
 use Rattle.packet_exports.specs.Four.{FourExported, carry_four, ReadExported}
 use Rattle.coincide.proofs.Functions.{One, OneBoth, one, both}
 
--- ---- packing
+-- ---- packing, of a value of any type with a number for each, and of an answer that is such a value or a refusal
+pub pack : {A : Type 0} (number : A → ℕ) (value : A) → One (λ (r : ℕ). r ≡ number value)
+pack number value = one (number value)
+
+pub packed : {A : Type 0} (number : A → ℕ) (answer : Result A Refusal) → One (λ (r : ℕ). r ≡ pack_result number answer)
+packed number answer = one (pack_result number answer)
+
 pub packed_refused : (refusal : ℕ) → One (λ (r : ℕ). r ≡ pack_refused refusal)
 packed_refused refusal = one (pack_refused refusal)
 
@@ -85,7 +92,7 @@ read_stack h packet out answer x y u v p q = (
 pub added : (t : Tally) (deliveries offers refused : ℕ) → One (λ (r : Tally). r ≡ added_to t deliveries offers refused)
 added t deliveries offers refused = one (added_to t deliveries offers refused)
 
-pub after_delivery_lem : (t : Tally) (answer : Delivered) → One (λ (r : Tally). r ≡ after_delivery t answer)
+pub after_delivery_lem : {E : Type 0} (t : Tally) (answer : Result ℕ E) → One (λ (r : Tally). r ≡ after_delivery t answer)
 after_delivery_lem t answer = one (after_delivery t answer)
 
 pub after_run_lem : (t : Tally) (answer : Ran) → One (λ (r : Tally). r ≡ after_run t answer)
