@@ -20,7 +20,7 @@ use Rattle.refusal.specs.declared.Refusal.{Refusal}
 use Rattle.refusal.specs.Numbers.{named}
 use Rattle.refusal.proofs.Answers.{answered_ok, answered_err}
 use Rattle.network.proofs.Entries.{node_is, node_past, link_from_none, link_to_none, link_nodes}
-use Rattle.network.proofs.Links.{links_none, links_same}
+use Rattle.network.proofs.Pairs.{links_none, links_same}
 
 -- ---- a network that is not refused
 pub record Valid (net : Network) : Type 0 where

@@ -1,8 +1,8 @@
 -- The laws of crate network, and what they rest on.
 pub mod Entries
-pub mod Links
+pub mod Pairs
 pub mod Bounds
+pub mod Sets
 pub mod Rows
-pub mod Refusals
 pub mod Laws
 pub mod Examples

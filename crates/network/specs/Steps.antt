@@ -1,12 +1,8 @@
--- What private functions ask and answer on the way; no public contract cites it.
-use Rattle.std.specs.Prelude.{ℕ, ◌*◌, ◌≤◌, ◌≡◌, List, Bool, ◌&&◌, length, ltb, eqb}
+-- What private functions answer on the way; no public contract cites it.
+use Rattle.std.specs.Prelude.{ℕ, List, Bool, ◌&&◌, ltb, eqb}
 use Rattle.std.specs.Bool.{beq}
 use Rattle.lists.specs.Lists.{every}
-use Rattle.network.specs.Network.{Network, link_at}
-
--- the slice has a link for each pair of nodes
-abbrev pub AllLinks : Network → Type 0
-AllLinks net = (net.n ≤ 32) × (length net.links ≡ net.n * net.n)
+use Rattle.network.specs.Network.{link_at}
 
 -- there is a link both ways, or none
 unfoldable pub good_pair : ℕ → List ℕ → ℕ → ℕ → Bool

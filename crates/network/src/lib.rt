@@ -1,11 +1,11 @@
 // The network that a call is handed. Every public function takes any input; its contract is an equation with a definition of specs/.
 #![tactic(auto)]
 
-ghost use Rattle.std.specs.Prelude.{◌≡◌, ◌<◌, get_or};
-ghost use Rattle.network.specs.Network.{link, neighbours};
+ghost use Rattle.std.specs.Prelude.{◌≡◌, ◌*◌, ◌≤◌, ◌<◌, length, get_or};
+ghost use Rattle.network.specs.Network.{link, link_at, neighbours};
 ghost use Rattle.network.specs.Handed.{network};
 ghost use Rattle.network.specs.Answers.{checked_of};
-ghost use Rattle.network.specs.Steps.{AllLinks, good_row, half_links};
+ghost use Rattle.network.specs.Steps.{good_row, half_links};
 
 use refusal::Refusal;
 
@@ -28,6 +28,7 @@ pub fn entry(list: &[u16], at: usize) -> u16
 
 impl<'a> Network<'a> {
     /// The cost of the link from u to w; 0 where there is none.
+    #[tactic(auto, unfolding(crate::specs::Network::link_at, crate::specs::Network::is_node), using(crate::proofs::Sets::places))]
     pub fn link(&self, u: usize, w: usize) -> u16
         ensures { result ≡ link (network self.now) u w }
     {
@@ -53,32 +54,8 @@ impl<'a> Network<'a> {
         word
     }
 
-    // As link, where the slice is known to have the link: no test.
-    fn link_in(&self, u: usize, w: usize) -> u16
-        requires { AllLinks (network self.now) × (u < self.now.n) × (w < self.now.n) }
-        ensures { result ≡ link (network self.now) u w }
-    {
-        self.links[u * self.n + w]
-    }
-
-    // Whether u has no link to itself, and to each node before it a link both ways or none.
-    fn good_row(&self, u: usize) -> bool
-        requires { AllLinks (network self.now) × (u < self.now.n) }
-        ensures { result ≡ good_row self.now.n self.now.links.now u }
-    {
-        self.link_in(u, u) == 0
-            && (0..u).all(|w| (0 < self.link_in(u, w)) == (0 < self.link_in(w, u)))
-    }
-
-    // Whether no node has a link to itself and every link goes both ways. Each pair is looked at once, from the later node.
-    fn good_links(&self) -> bool
-        requires { AllLinks (network self.now) }
-        ensures { result ≡ half_links self.now.n self.now.links.now }
-    {
-        (0..self.n).all(|u| self.good_row(u))
-    }
-
     /// How many stacks the network has, or why it is refused. Each number is tested before it takes part in a product.
+    #[tactic(auto, unfolding(crate::specs::Network::ok_sizes, crate::specs::Network::refusal_of), using(crate::proofs::Sets::sizes))]
     pub fn check(&self) -> Result<usize, Refusal>
         ensures { result ≡ checked_of (network self.now) }
     {
@@ -97,9 +74,49 @@ impl<'a> Network<'a> {
         {
             return Err(Refusal::Sizes);
         }
-        if self.good_links() {
+        let links = Links {
+            n,
+            links: self.links,
+        };
+        if links.good_links() {
             return Ok(most);
         }
         Err(Refusal::Links)
+    }
+}
+
+// The links of at most 32 nodes, one for each pair of them.
+#[derive(Clone, Copy, Drop)]
+struct Links<'a> {
+    n: usize,
+    links: &'a [u16],
+    ghost whole: { (n ≤ 32) × (length links.now ≡ n * n) },
+}
+
+impl<'a> Links<'a> {
+    // As Network::link, with no test.
+    #[tactic(auto, unfolding(crate::specs::Network::link_at, crate::specs::Network::is_node), using(crate::proofs::Sets::places))]
+    fn link_in(&self, u: usize, w: usize) -> u16
+        requires { (u < self.now.n) × (w < self.now.n) }
+        ensures { result ≡ link_at self.now.n self.now.links.now u w }
+    {
+        self.links[u * self.n + w]
+    }
+
+    // Whether u has no link to itself, and to each node before it a link both ways or none.
+    #[tactic(auto, unfolding(crate::specs::Steps::good_row))]
+    fn good_row(&self, u: usize) -> bool
+        requires { u < self.now.n }
+        ensures { result ≡ good_row self.now.n self.now.links.now u }
+    {
+        self.link_in(u, u) == 0
+            && (0..u).all(|w| (0 < self.link_in(u, w)) == (0 < self.link_in(w, u)))
+    }
+
+    // Whether no node has a link to itself and every link goes both ways. Each pair is looked at once, from the later node.
+    fn good_links(&self) -> bool
+        ensures { result ≡ half_links self.now.n self.now.links.now }
+    {
+        (0..self.n).all(|u| self.good_row(u))
     }
 }

@@ -2,7 +2,6 @@
 pub mod Tests
 pub mod Count
 pub mod Scan
-pub mod Refusals
 pub mod Heights
 pub mod Outcomes
 pub mod Numbers

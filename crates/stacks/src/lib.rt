@@ -1,119 +1,127 @@
 // Stacks of protocols and their numbers. Every public function takes any input; its contract is an equation in specs/Answers.antt.
 #![tactic(auto)]
 
-ghost use Rattle.std.specs.Prelude.{◌≡◌, ◌++◌, ◌+◌, ◌*◌, ◌≤◌, ◌<◌, length, drop};
+ghost use Rattle.std.specs.Prelude.{◌≡◌, ◌++◌, ◌+◌, ◌*◌, ◌≤◌, length, drop, true, false, MatchResult};
 ghost use Rattle.stacks.specs.Stacks.{ok_size, count, height, stack_of};
 ghost use Rattle.stacks.specs.Answers.{count_of, number_of, height_of, out_of};
 ghost use Rattle.stacks.specs.Steps.{scan};
 
 use refusal::Refusal;
 
-fn good_size(p: usize, h: usize) -> bool
-    ensures { result ≡ ok_size p h }
-{
-    (1 <= p) & ((p <= 8) & ((1 <= h) & (h <= 12)))
+// Numbers of protocols and a height bound that are in range.
+#[derive(Clone, Copy, Drop)]
+struct Sizes {
+    p: usize,
+    h: usize,
+    ghost in_range: { (1 ≤ p) × (p ≤ 8) × (1 ≤ h) × (h ≤ 12) },
 }
 
-// S by Horner's rule, where p and h are in range.
-fn total(p: usize, h: usize) -> usize
-    requires { (p ≤ 8) × (h ≤ 12) }
-    ensures { result ≡ count p h }
-{
-    let mut n = 0;
-    for _ in 0..h {
-        n = p * n + p;
+impl Sizes {
+    #[tactic(auto, unfolding(crate::specs::Stacks::ok_size))]
+    fn new(p: usize, h: usize) -> Result<Sizes, Refusal>
+        ensures { MatchResult result (λ s. (s.p ≡ p) × (s.h ≡ h) × (ok_size p h ≡ true)) (λ r. (r ≡ Refusal.Range) × (ok_size p h ≡ false)) }
+    {
+        if (1 <= p) & (p <= 8) & (1 <= h) & (h <= 12) {
+            return Ok(Sizes { p, h });
+        }
+        Err(Refusal::Range)
     }
-    n
+
+    // S by Horner's rule.
+    #[tactic(auto, using(crate::proofs::Count::count_suc, crate::proofs::Count::count_fits))]
+    fn total(self) -> usize
+        ensures { result ≡ count self.p self.h }
+    {
+        let mut n = 0;
+        for _ in 0..self.h {
+            n = self.p * n + self.p;
+        }
+        n
+    }
+
+    // From the bottom up; a protocol that is not below p ends it.
+    #[tactic(auto, using(crate::proofs::Count::next_fits, crate::proofs::Count::step_fits, crate::proofs::Scan::scan_step))]
+    fn scanned(self, stack: &[u8]) -> Result<usize, Refusal>
+        requires { length stack.now ≤ self.h }
+        ensures { result ≡ scan self.p 0 stack.now }
+    {
+        let mut n = 0;
+        for q in stack {
+            let q = *q as usize;
+            if self.p <= q {
+                return Err(Refusal::Range);
+            }
+            n = self.p * n + q + 1;
+        }
+        Ok(n)
+    }
+
+    #[tactic(auto, using(crate::proofs::Heights::height_turn))]
+    fn height_of(self, number: usize) -> usize
+        ensures { result ≡ height self.p self.h number }
+    {
+        let mut n = number;
+        for i in 0..self.h {
+            if n < 1 {
+                return i;
+            }
+            n = (n - 1) / self.p;
+        }
+        self.h
+    }
+
+    // From the top down, so that one pass finds each protocol's place.
+    fn filled(self, number: usize, high: usize, out: &mut [u8])
+        requires whole { high ≡ height self.p self.h number }
+        requires room { high ≤ length out.old }
+        ensures { out.new ≡ stack_of self.p self.h number ++ drop high out.old }
+    {
+        let mut n = number;
+        for i in (0..high).rev() {
+            out[i] = ((n - 1) % self.p) as u8;
+            n = (n - 1) / self.p;
+        }
+    }
 }
 
 // How many stacks of height 1 to h there are: S.
 pub fn stack_count(p: usize, h: usize) -> Result<usize, Refusal>
     ensures { result ≡ count_of p h }
 {
-    if good_size(p, h) {
-        Ok(total(p, h))
-    } else {
-        Err(Refusal::Range)
-    }
-}
-
-// From the bottom up; a protocol that is not below p ends it.
-fn scanned(p: usize, stack: &[u8]) -> Result<usize, Refusal>
-    requires { (1 ≤ p) × (p ≤ 8) × (length stack.now ≤ 12) }
-    ensures { result ≡ scan p 0 stack.now }
-{
-    let mut n = 0;
-    for q in stack {
-        let q = *q as usize;
-        if p <= q {
-            return Err(Refusal::Range);
-        }
-        n = p * n + q + 1;
-    }
-    Ok(n)
+    Ok(Sizes::new(p, h)?.total())
 }
 
 // The number of a stack, bottom to top.
+#[tactic(auto, unfolding(crate::specs::Stacks::ok_stack), using(crate::proofs::Scan::scan_is))]
 pub fn number_of(p: usize, h: usize, stack: &[u8]) -> Result<usize, Refusal>
     ensures { result ≡ number_of p h stack.now }
 {
-    if good_size(p, h) {
-        if stack.len() < 1 {
-            return Err(Refusal::Range);
-        }
-        if h < stack.len() {
-            return Err(Refusal::Range);
-        }
-        scanned(p, stack)
-    } else {
-        Err(Refusal::Range)
+    let sizes = Sizes::new(p, h)?;
+    if stack.len() < 1 {
+        return Err(Refusal::Range);
     }
-}
-
-fn height_of(p: usize, h: usize, number: usize) -> usize
-    requires { (1 ≤ p) × (h ≤ 12) }
-    ensures { result ≡ height p h number }
-{
-    let mut n = number;
-    for i in 0..h {
-        if n < 1 {
-            return i;
-        }
-        n = (n - 1) / p;
+    if h < stack.len() {
+        return Err(Refusal::Range);
     }
-    h
-}
-
-// From the top down, so that one pass finds each protocol's place.
-fn filled(p: usize, h: usize, number: usize, high: usize, out: &mut [u8])
-    requires { (1 ≤ p) × (p ≤ 8) × (high ≡ height p h number) × (high ≤ length out.old) }
-    ensures { out.new ≡ stack_of p h number ++ drop high out.old }
-{
-    let mut n = number;
-    for i in (0..high).rev() {
-        out[i] = ((n - 1) % p) as u8;
-        n = (n - 1) / p;
-    }
+    sizes.scanned(stack)
 }
 
 // The stack of a number, bottom to top, into the front of out; answers its height.
+#[tactic(auto, unfolding(crate::specs::Stacks::ok_number, crate::specs::Answers::ok_out))]
 pub fn stack_of(p: usize, h: usize, number: usize, out: &mut [u8]) -> Result<usize, Refusal>
     ensures { (result ≡ height_of p h number out.old) × (out.new ≡ out_of p h number out.old) }
 {
-    if good_size(p, h) {
-        if number < 1 {
-            return Err(Refusal::Range);
-        }
-        if total(p, h) < number {
-            return Err(Refusal::Range);
-        }
-        let high = height_of(p, h, number);
-        if out.len() < high {
-            return Err(Refusal::Range);
-        }
-        filled(p, h, number, high, out);
-        Ok(high)
-    } else {
-        Err(Refusal::Range)
+    let sizes = Sizes::new(p, h)?;
+    if number < 1 {
+        return Err(Refusal::Range);
     }
+    if sizes.total() < number {
+        return Err(Refusal::Range);
+    }
+    let high = sizes.height_of(number);
+    if out.len() < high {
+        return Err(Refusal::Range);
+    }
+    sizes.filled(number, high, out);
+    Ok(high)
 }

@@ -1,4 +1,4 @@
--- `network::good_links` meets its contract: it asks of each node what `half_links` asks.
+-- `network::Links::good_links` meets its contract: it asks of each node what `half_links` asks.
 use native.Mathlib.Omega.{arith}
 use mathlib.Core.Path.{refl, ◌∙◌}
 use Rattle.std.proofs.Common.{rules}
@@ -6,7 +6,7 @@ use Rattle.std.proofs.lemmas.Iterator.{YieldsList-from_range}
 use Rattle.std.proofs.lemmas.Iterator.Search.{all_from_yields_List}
 use Rattle.lists.proofs.Ranges.{all_every}
 use Rattle.network.specs.Steps.{half_links}
-use Rattle.network.proofs.Network.good_links.Goals as goal
+use Rattle.network.proofs.Links.good_links.Goals as goal
 
 pub returns : goal.returns
 unfolding half_links

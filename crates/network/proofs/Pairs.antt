@@ -86,10 +86,10 @@ module _ (net : Network) where
       (λ b. half_pair e U W u b)
       (λ b. by_cases (dec_lt U W) (λ d. sym (half_pair e W U w d)) (λ d. let q : U ≡ W = omega arith in ap₂ (present net) q (sym q)))
 
-  pub half_is_all : half_links net.n net.links ≡ ok_links net
+  pub half_is_all : ok_links net ≡ half_links net.n net.links
   unfolding half_links good_row ok_links
-  half_is_all = same_test (half_links net.n net.links) (ok_links net)
-      (λ e. every_all net.n _ (λ U u. and_true _ _ (half_none e U u)
-      (every_all net.n _ (λ W w. no_one_way (present net U W) (present net W U) (half_same e U W u w)))))
+  half_is_all = same_test (ok_links net) (half_links net.n net.links)
       (λ e. every_all net.n _ (λ U u. and_true _ _ (eq-eqb _ 0 (links_none e U u))
       (every_all U _ (λ W w. same_pair U W (links_same e U W u (omega arith))))))
+      (λ e. every_all net.n _ (λ U u. and_true _ _ (half_none e U u)
+      (every_all net.n _ (λ W w. no_one_way (present net U W) (present net W U) (half_same e U W u w)))))
