@@ -28,20 +28,24 @@ turn_of_function p f = turn_by p (kind_of f) (from_of f) (to_of f)
 
 -- ---- the three kinds
 module _ (p number i : ℕ) where
-  pub converts : i < p → candidate_of p number i ≡ record { function = record { kind = Kind.Convert; a = i; b = top p number }; source = p * rest p number + i + 1 }
+  pub converts : i < p → candidate_of p number i
+      ≡ record { function = record { kind = Kind.Convert; a = i; b = top p number }; source = p * rest p number + i + 1 }
   unfolding candidate_of
   converts low = simp (lt-ltb i p low)
 
-  pub wraps : p ≤ i → i ≤ p → candidate_of p number i ≡ record { function = record { kind = Kind.Wrap; a = top p (rest p number); b = top p number }; source = rest p number }
+  pub wraps : p ≤ i → i ≤ p → candidate_of p number i
+      ≡ record { function = record { kind = Kind.Wrap; a = top p (rest p number); b = top p number }; source = rest p number }
   unfolding candidate_of
   wraps low high = simp (le-ltb i p low, le-ltb p i high)
 
-  pub unwraps : p < i → candidate_of p number i ≡ record { function = record { kind = Kind.Unwrap; a = top p number; b = i - p - 1 }; source = p * number + (i - p - 1) + 1 }
+  pub unwraps : p < i → candidate_of p number i
+      ≡ record { function = record { kind = Kind.Unwrap; a = top p number; b = i - p - 1 }; source = p * number + (i - p - 1) + 1 }
   unfolding candidate_of
   unwraps high = simp (le-ltb i p (omega arith), lt-ltb p i high)
 
   -- nothing is below the heard top
-  pub wraps_none : p ≤ i → i ≤ p → rest p number < 1 → candidate_of p number i ≡ record { function = record { kind = Kind.Wrap; a = 0; b = top p number }; source = 0 }
+  pub wraps_none : p ≤ i → i ≤ p → rest p number < 1 → candidate_of p number i
+      ≡ record { function = record { kind = Kind.Wrap; a = 0; b = top p number }; source = 0 }
   wraps_none low high none =
       let e : rest p number ≡ 0 = omega arith in
       wraps low high ∙ ap (λ (x : ℕ). record { function = record { kind = Kind.Wrap; a = top p x; b = top p number }; source = x }) e
@@ -52,7 +56,8 @@ module _ (p number tip under i : ℕ) (z : Parted p number tip under i) where
   pub converts_by : i < p → record { function = record { kind = Kind.Convert; a = i; b = tip }; source = p * under + i + 1 } ≡ candidate_of p number i
   converts_by low = sym (converts p number i low ∙ cc (z.tops, z.rests))
 
-  pub unwraps_by : p < i → record { function = record { kind = Kind.Unwrap; a = tip; b = i - p - 1 }; source = p * number + (i - p - 1) + 1 } ≡ candidate_of p number i
+  pub unwraps_by : p < i → record { function = record { kind = Kind.Unwrap; a = tip; b = i - p - 1 }; source = p * number + (i - p - 1) + 1 }
+      ≡ candidate_of p number i
   unwraps_by high = sym (unwraps p number i high ∙ cc z.tops)
 
   pub wraps_by : p ≤ i → i ≤ p → record { function = record { kind = Kind.Wrap; a = top p under; b = tip }; source = under } ≡ candidate_of p number i
@@ -144,8 +149,10 @@ module _ (g : Gateway) (m : Message) (i : ℕ) (z : Turn g.p m.number i) (within
       let l = led g.p g.most (leader g m x) x m.number (leader_found g m x low).makes in
       let f = leader g m x in
       let q = sym (in_turn g.p m.number (kind_of f) (from_of f) (to_of f) x (omega arith) l.moves.parts.from l.from_source) ∙ ap (candidate_of g.p m.number)
-      e in
-      (put_together f ∙ ap (λ (k : ℕ). 64 * k + 8 * from_of f + to_of f) (sym (kind_back (kind_of f) (omega arith))) ∙ ap candidate_function q, ap (λ (y : Candidate). y.source) q)
+      e in (
+        put_together f ∙ ap (λ (k : ℕ). 64 * k + 8 * from_of f + to_of f) (sym (kind_back (kind_of f) (omega arith))) ∙ ap candidate_function q,
+        ap (λ (y : Candidate). y.source) q,
+      )
 
   pub leads : 0 < g.words (candidate_function here) → 1 ≤ here.source → here.source ≤ g.most → leader g m here.source ≡ candidate_function here
   leads has some low =

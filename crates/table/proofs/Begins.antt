@@ -44,7 +44,8 @@ module _ (net : Network) (costs ways waits s : ℕ) (found : checked_of net ≡ 
   unfolding refusal_by
   all_long good = simp (eq-eqb (refusal_of net) 0 right, sym lengths_are ∙ good) (ap Ok (checked_valid net s found).1)
 
-pub not_ready : (net : Network) (costs ways waits : ℕ) (r : Refusal) → checked_of net ≡ Err r → ◌≡◌ {A = Result ℕ Refusal} (Err r) (ready_of net costs ways waits)
+pub not_ready : (net : Network) (costs ways waits : ℕ) (r : Refusal) → checked_of net ≡ Err r → ◌≡◌ {A = Result ℕ Refusal} (Err r)
+    (ready_of net costs ways waits)
 unfolding refusal_by
 not_ready net costs ways waits r found =
     let a = checked_refused net r found in

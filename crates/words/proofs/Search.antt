@@ -50,13 +50,15 @@ pub first_here : (ws : List ℕ) (i to : ℕ) → i < to → i < length ws → (
 unfolding first_between first_set_from
 first_here ws i to h l ne =
     ap (λ (xs : List ℕ). first_set_from i xs) (part_cons ws i to h l)
-    ∙ ap (λ (t : Bool). cond t (first_set_from (suc i) (take (to - (i + 1)) (drop (i + 1) ws))) (found_at i (lowest (get_or ws i 0)))) (ne_eqb (get_or ws i 0) 0 ne)
+    ∙ ap (λ (t : Bool). cond t (first_set_from (suc i) (take (to - (i + 1)) (drop (i + 1) ws))) (found_at i (lowest (get_or ws i 0)))) (ne_eqb
+    (get_or ws i 0) 0 ne)
 
 pub first_next : (ws : List ℕ) (i to : ℕ) → i < to → i < length ws → get_or ws i 0 ≡ 0 → first_between i to ws ≡ first_between (i + 1) to ws
 unfolding first_between first_set_from
 first_next ws i to h l z =
     ap (λ (xs : List ℕ). first_set_from i xs) (part_cons ws i to h l)
-    ∙ ap (λ (t : Bool). cond t (first_set_from (suc i) (take (to - (i + 1)) (drop (i + 1) ws))) (found_at i (lowest (get_or ws i 0)))) (eq-eqb (get_or ws i 0) 0 z)
+    ∙ ap (λ (t : Bool). cond t (first_set_from (suc i) (take (to - (i + 1)) (drop (i + 1) ws))) (found_at i (lowest (get_or ws i 0)))) (eq-eqb
+    (get_or ws i 0) 0 z)
     ∙ ap (λ (n : ℕ). first_set_from n (take (to - (i + 1)) (drop (i + 1) ws))) (sym (add-one i))
 
 -- four words whose OR is 0 are passed over at once

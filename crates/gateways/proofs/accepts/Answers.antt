@@ -14,7 +14,8 @@ pub returns-then-net-le8 : goal.returns-then-net-le8
 unfolding accepts
 returns-then-net-le8 c =
     let a = c.args in
-    any_from_yields_List (receives_by a.net.now.n a.net.now.p a.net.now.functions.now a.node a.x) _ _ _ c.any.ensures.ran (YieldsList-from_range 0 a.net.now.p a.net.now.p refl (omega arith))
+    any_from_yields_List (receives_by a.net.now.n a.net.now.p a.net.now.functions.now a.node a.x) _ _ _ c.any.ensures.ran
+    (YieldsList-from_range 0 a.net.now.p a.net.now.p refl (omega arith))
     (λ x b q k. search rules)
     ∙ any_some a.net.now.p _
     ∙ received a.net.now.n a.net.now.p a.net.now.functions.now a.node a.x

@@ -49,7 +49,8 @@ begins : (c : In_ok-tested) → let a = c.args in let q = rows_of a.costs.now a.
     Heeds (gateway_seen a.gateway) (message_seen a.message) q q 0 0
 begins c =
     let a = c.args in
-    starts _ _ _ (answered_ok (refused (gateway_seen a.gateway) (message_seen a.message) (rows_of a.costs.now a.ways.now a.waiting.now)) tt tt c.in_ok-tested.ensures).0
+    starts _ _ _ (answered_ok (refused (gateway_seen a.gateway) (message_seen a.message)
+    (rows_of a.costs.now a.ways.now a.waiting.now)) tt tt c.in_ok-tested.ensures).0
 
 pub overflow_sub-top : goal.overflow_sub-top
 overflow_sub-top c = (begins (goal.at.overflow_sub-top c).In_ok-tested).passes.numbers_good.numbered

@@ -59,8 +59,11 @@ returns-in-Err c =
     )
 
 pub loop-done-preserved : goal.loop-done-preserved
-loop-done-preserved c =
-    (next (goal.at.loop-done-preserved c).In-Ok-Some, same_twice c.args.table.now c.loop-done.table c.take_turn.new.table c.loop-done.invariant.1 c.take_turn.ensures.1)
+loop-done-preserved c = (
+  next (goal.at.loop-done-preserved c).In-Ok-Some,
+  same_twice c.args.table.now c.loop-done.table c.take_turn.new.table c.loop-done.invariant.1
+      c.take_turn.ensures.1,
+)
 
 pub returns : goal.returns
 returns c =
