@@ -95,7 +95,7 @@ added t deliveries offers refused = one (added_to t deliveries offers refused)
 pub after_delivery_lem : {E : Type 0} (t : Tally) (answer : Result ℕ E) → One (λ (r : Tally). r ≡ after_delivery t answer)
 after_delivery_lem t answer = one (after_delivery t answer)
 
-pub after_run_lem : (t : Tally) (answer : Ran) → One (λ (r : Tally). r ≡ after_run t answer)
+pub after_run_lem : {E : Type 0} (t : Tally) (answer : Ran E) → One (λ (r : Tally). r ≡ after_run t answer)
 after_run_lem t answer = one (after_run t answer)
 
 pub tally_add : (t : Tally) (deliveries offers refused : ℕ) → One (λ (after : Tally). after ≡ added_to t deliveries offers refused)

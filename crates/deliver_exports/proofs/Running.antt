@@ -27,7 +27,7 @@ module _ (net : Network) (limit : ℕ) (t : Table) (answer : List ℕ) where
   }
 
   -- d is the number of deliveries as it is written, and `left` the table in the caller's own slices
-  pub has_run : (r d : ℕ) (ran : Ran) (after left : Table) → left ≡ after → d ≡ ran.done → 2 ≤ length answer → Runs (run_of net limit t) ran after
+  pub has_run : (r d : ℕ) (ran : Ran Refusal) (after left : Table) → left ≡ after → d ≡ ran.done → 2 ≤ length answer → Runs (run_of net limit t) ran after
       → r ≡ pack_end (number_or_none ran.refused) → RunExported net limit t answer r left (set (set answer 0 d) 1 ran.offers)
   unfolding run_packed run_table run_numbers
   has_run r d ran after left kept done long runs e = record {

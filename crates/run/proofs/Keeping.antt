@@ -116,7 +116,7 @@ module _ (net : Network) (s k : ℕ) (t₀ : Table) where
 pub prepared : (net : Network) (t : Table) (s : ℕ) → Ready net t s → Prepared net s t
 prepared net t s r = record { network = r.network; stacks_are = r.stacks_are; sized = sized_so net t s r }
 
-pub run_begun : (net : Network) (k : ℕ) (t after : Table) (s : ℕ) (answer : Ran) → Ready net t s → Runs (steps net k t) answer after
+pub run_begun : (net : Network) (k : ℕ) (t after : Table) (s : ℕ) (answer : Ran Refusal) → Ready net t s → Runs (steps net k t) answer after
     → Runs (run_of net k t) answer after
 unfolding run_of
 run_begun net k t after s answer r h = subst (λ (o : RunOutcome). Runs o answer after) (sym (begun net t s r (steps net k t) (ends (refusal net t) t))) h

@@ -1,5 +1,6 @@
 -- Run: "first waiting, then deliver, until quiet or k are done; answers the number done".
 use Rattle.std.specs.Prelude.{ℕ, zero, suc, ◌+◌, ◌≡◌, cond, eqb, Option, Some, None}
+use Rattle.refusal.specs.declared.Refusal.{Refusal}
 use Rattle.refusal.specs.Numbers.{refused_with}
 use Rattle.words.specs.Words.{first_in}
 use Rattle.words.specs.declared.Found.{Found}
@@ -16,7 +17,7 @@ pub record RunOutcome : Type 0 where
   pub table : Table
 
 -- what a run answers and leaves is this outcome
-pub record Runs (o : RunOutcome) (answer : Ran) (after : Table) : Type 0 where
+pub record Runs (o : RunOutcome) (answer : Ran Refusal) (after : Table) : Type 0 where
   pub done : answer.done ≡ o.done
   pub offers : answer.offers ≡ o.offers
   pub refused : answer.refused ≡ refused_with o.refused

@@ -31,10 +31,10 @@ pub struct Message {
     pub number: usize,
 }
 
-/// Deliveries done, the offers that rows took, and the refusal that ended the run, if one did.
+/// Deliveries done, the offers that rows took, and what ended the run, if it was refused.
 #[derive(Clone, Copy, Debug, PartialEq, Eq, Drop)]
-pub struct Ran {
+pub struct Ran<E = Refusal> {
     pub done: u32,
     pub offers: u64,
-    pub refused: Option<Refusal>,
+    pub refused: Option<E>,
 }

@@ -24,5 +24,5 @@ abbrev pub calls_refused : {E : Type 0} → Option E → ℕ
 calls_refused None = 0
 calls_refused (Some e) = 1
 
-abbrev pub after_run : Tally → Ran → Tally
+abbrev pub after_run : {E : Type 0} → Tally → Ran E → Tally
 after_run t ran = added_to t ran.done ran.offers (calls_refused ran.refused)

@@ -47,8 +47,8 @@ pub fn after_delivery<E: Drop>(t: Tally, answer: Result<usize, E>) -> Tally
     }
 }
 
-// The tally after a call of run that answered this.
-pub fn after_run(t: Tally, answer: Ran) -> Tally
+// The tally after a call of run that answered this; here too any error counts as one.
+pub fn after_run<E: Drop>(t: Tally, answer: Ran<E>) -> Tally
     ensures { result ≡ after_run t answer }
 {
     let refused = u32::from(answer.refused.is_some());
