@@ -5,6 +5,9 @@ ghost use Rattle.table.specs.Answers.{count_answer, first_answer, fresh_answer, 
 ghost use Rattle.table.specs.Table.{table_of};
 ghost use Rattle.table_exports.specs.Packing.{pack_counted, pack_first};
 
+use network::Network;
+use table::{Table, TableMut};
+
 // Writes the fresh table; answers how many messages wait.
 #[unsafe(no_mangle)]
 pub extern "C" fn bannogwy_fresh(
@@ -20,7 +23,14 @@ pub extern "C" fn bannogwy_fresh(
     ensures { (result ≡ pack_counted (fresh_answer (network_of n p h links.now functions.now) (table_of cost.old way.old waiting.old)))
         × (table_of cost.new way.new waiting.new ≡ fresh_table (network_of n p h links.now functions.now) (table_of cost.old way.old waiting.old)) }
 {
-    table_exports::bannogwy_fresh(n, p, h, links, functions, cost, way, waiting)
+    let net = Network {
+        n,
+        p,
+        h,
+        links,
+        functions,
+    };
+    table_exports::fresh(&net, &mut TableMut { cost, way, waiting })
 }
 
 // How many messages wait.
@@ -37,7 +47,14 @@ pub extern "C" fn bannogwy_count(
 ) -> u64
     ensures { result ≡ pack_counted (count_answer (network_of n p h links.now functions.now) (table_of cost.now way.now waiting.now)) }
 {
-    table_exports::bannogwy_count(n, p, h, links, functions, cost, way, waiting)
+    let net = Network {
+        n,
+        p,
+        h,
+        links,
+        functions,
+    };
+    table_exports::count(&net, &Table { cost, way, waiting })
 }
 
 // The first message that waits.
@@ -54,5 +71,12 @@ pub extern "C" fn bannogwy_first_waiting(
 ) -> u64
     ensures { result ≡ pack_first (first_answer (network_of n p h links.now functions.now) (table_of cost.now way.now waiting.now)) }
 {
-    table_exports::bannogwy_first_waiting(n, p, h, links, functions, cost, way, waiting)
+    let net = Network {
+        n,
+        p,
+        h,
+        links,
+        functions,
+    };
+    table_exports::first_waiting(&net, &Table { cost, way, waiting })
 }
