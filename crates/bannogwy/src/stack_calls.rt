@@ -9,7 +9,7 @@ ghost use Rattle.stack_exports.specs.Packing.{pack_after, pack_answer};
 pub extern "C" fn bannogwy_stack_count(p: usize, h: usize) -> u64
     ensures { result ≡ pack_answer (count_of p h) }
 {
-    stack_exports::bannogwy_stack_count(p, h)
+    stack_exports::stack_count(p, h)
 }
 
 // The number of a stack, bottom to top.
@@ -17,7 +17,7 @@ pub extern "C" fn bannogwy_stack_count(p: usize, h: usize) -> u64
 pub extern "C" fn bannogwy_number_of(p: usize, h: usize, stack: &[u8]) -> u64
     ensures { result ≡ pack_answer (number_of p h stack.now) }
 {
-    stack_exports::bannogwy_number_of(p, h, stack)
+    stack_exports::number_of(p, h, stack)
 }
 
 // The stack of a number, bottom to top, into the front of `out`; answers its height.
@@ -25,7 +25,7 @@ pub extern "C" fn bannogwy_number_of(p: usize, h: usize, stack: &[u8]) -> u64
 pub extern "C" fn bannogwy_stack_of(p: usize, h: usize, number: usize, out: &mut [u8]) -> u64
     ensures { (result ≡ pack_answer (height_of p h number out.old)) × (out.new ≡ out_of p h number out.old) }
 {
-    stack_exports::bannogwy_stack_of(p, h, number, out)
+    stack_exports::stack_of(p, h, number, out)
 }
 
 // The number of the stack that a function makes of the stack of a number; 0 where it is not applicable.
@@ -33,7 +33,7 @@ pub extern "C" fn bannogwy_stack_of(p: usize, h: usize, number: usize, out: &mut
 pub extern "C" fn bannogwy_applied(p: usize, h: usize, function: usize, number: usize) -> u64
     ensures { result ≡ pack_after (applied_of p h function number) }
 {
-    stack_exports::bannogwy_applied(p, h, function, number)
+    stack_exports::applied(p, h, function, number)
 }
 
 // The function that takes back what this one does.
@@ -41,5 +41,5 @@ pub extern "C" fn bannogwy_applied(p: usize, h: usize, function: usize, number: 
 pub extern "C" fn bannogwy_inverse_of(p: usize, function: usize) -> u64
     ensures { result ≡ pack_answer (inverse_of p function) }
 {
-    stack_exports::bannogwy_inverse_of(p, function)
+    stack_exports::inverse_of(p, function)
 }

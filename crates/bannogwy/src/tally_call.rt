@@ -9,5 +9,5 @@ use tally::Tally;
 pub extern "C" fn bannogwy_tally_add(t: &mut Tally, deliveries: u64, offers: u64, refused: u32)
     ensures { t.new ≡ added_to t.old deliveries offers refused }
 {
-    tally::bannogwy_tally_add(t, deliveries, offers, refused)
+    tally::add(t, deliveries, offers, refused)
 }

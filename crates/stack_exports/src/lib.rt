@@ -1,4 +1,4 @@
-// The calls on stacks, exported to C: the numbers and slices of include/bannogwy.h, the answer packed into one number.
+// What the calls on stacks answer a C caller: one number, into which the answer is packed.
 #![tactic(auto)]
 
 ghost use Rattle.std.specs.Prelude.{◌≡◌};
@@ -8,41 +8,36 @@ ghost use Rattle.stack_exports.specs.Packing.{pack_after, pack_answer};
 
 use packing::packed;
 
-// How many stacks there are.
-#[unsafe(no_mangle)]
-pub extern "C" fn bannogwy_stack_count(p: usize, h: usize) -> u64
+/// How many stacks there are.
+pub fn stack_count(p: usize, h: usize) -> u64
     ensures { result ≡ pack_answer (count_of p h) }
 {
     packed(stacks::stack_count(p, h))
 }
 
-// The number of a stack, bottom to top.
-#[unsafe(no_mangle)]
-pub extern "C" fn bannogwy_number_of(p: usize, h: usize, stack: &[u8]) -> u64
+/// The number of a stack, bottom to top.
+pub fn number_of(p: usize, h: usize, stack: &[u8]) -> u64
     ensures { result ≡ pack_answer (number_of p h stack.now) }
 {
     packed(stacks::number_of(p, h, stack))
 }
 
-// The stack of a number, bottom to top, into the front of `out`; answers its height.
-#[unsafe(no_mangle)]
-pub extern "C" fn bannogwy_stack_of(p: usize, h: usize, number: usize, out: &mut [u8]) -> u64
+/// The stack of a number, bottom to top, into the front of `out`; answers its height.
+pub fn stack_of(p: usize, h: usize, number: usize, out: &mut [u8]) -> u64
     ensures { (result ≡ pack_answer (height_of p h number out.old)) × (out.new ≡ out_of p h number out.old) }
 {
     packed(stacks::stack_of(p, h, number, out))
 }
 
-// The number of the stack that a function makes of the stack of a number; 0 where it is not applicable.
-#[unsafe(no_mangle)]
-pub extern "C" fn bannogwy_applied(p: usize, h: usize, function: usize, number: usize) -> u64
+/// The number of the stack that a function makes of the stack of a number; 0 where it is not applicable.
+pub fn applied(p: usize, h: usize, function: usize, number: usize) -> u64
     ensures { result ≡ pack_after (applied_of p h function number) }
 {
     packed(functions::applied(p, h, function, number))
 }
 
-// The function that takes back what this one does.
-#[unsafe(no_mangle)]
-pub extern "C" fn bannogwy_inverse_of(p: usize, function: usize) -> u64
+/// The function that takes back what this one does.
+pub fn inverse_of(p: usize, function: usize) -> u64
     ensures { result ≡ pack_answer (inverse_of p function) }
 {
     packed(functions::inverse_of(p, function))

@@ -56,8 +56,7 @@ pub fn after_run<E: Drop>(t: Tally, answer: Ran<E>) -> Tally
 }
 
 // The caller's record, brought up to date in place.
-#[unsafe(no_mangle)]
-pub extern "C" fn bannogwy_tally_add(t: &mut Tally, deliveries: u64, offers: u64, refused: u32)
+pub fn add(t: &mut Tally, deliveries: u64, offers: u64, refused: u32)
     ensures { t.new ≡ added_to t.old deliveries offers refused }
 {
     *t = added(*t, deliveries, offers, refused);
