@@ -6,6 +6,9 @@ ghost use Rattle.table.specs.Table.{table_of};
 ghost use Rattle.deliver_exports.specs.Packing.{pack_delivered};
 ghost use Rattle.deliver_exports.specs.Run.{RunExported};
 
+use network::Network;
+use table::{Message, TableMut};
+
 // Delivers one message; answers how many rows took an offer.
 #[unsafe(no_mangle)]
 pub extern "C" fn bannogwy_deliver(
@@ -27,20 +30,20 @@ pub extern "C" fn bannogwy_deliver(
         × (table_of cost.new way.new waiting.new ≡ deliver_table
         (network_of n p h links.now functions.now) (table_of cost.old way.old waiting.old) sender receiver destination number) }
 {
-    deliver_exports::bannogwy_deliver(
+    let net = Network {
         n,
         p,
         h,
         links,
         functions,
-        cost,
-        way,
-        waiting,
+    };
+    let message = Message {
         sender,
         receiver,
         destination,
         number,
-    )
+    };
+    deliver_exports::deliver(&net, &mut TableMut { cost, way, waiting }, message)
 }
 
 // Delivers until quiet or until `limit` are done; the numbers of deliveries and of offers go into `answer`.
@@ -60,5 +63,12 @@ pub extern "C" fn bannogwy_run(
     ensures { RunExported (network_of n p h links.now functions.now) limit (table_of cost.old way.old waiting.old) answer.old
         result (table_of cost.new way.new waiting.new) answer.new }
 {
-    deliver_exports::bannogwy_run(n, p, h, links, functions, cost, way, waiting, limit, answer)
+    let net = Network {
+        n,
+        p,
+        h,
+        links,
+        functions,
+    };
+    deliver_exports::run(&net, &mut TableMut { cost, way, waiting }, limit, answer)
 }

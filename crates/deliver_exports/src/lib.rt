@@ -1,10 +1,10 @@
-// The calls that deliver, exported to C: the numbers and slices of include/bannogwy.h, the answer packed into one number.
+// The calls that deliver, as crate bannogwy exports them to C: the answer of each is packed into one number.
 #![tactic(auto)]
 
 ghost use Rattle.std.specs.Prelude.{◌≡◌};
-ghost use Rattle.network.specs.Network.{network_of};
+ghost use Rattle.network.specs.Handed.{network};
+ghost use Rattle.table.specs.Handed.{SameSlices, table_held};
 ghost use Rattle.table.specs.Answers.{deliver_answer, deliver_table};
-ghost use Rattle.table.specs.Table.{table_of};
 ghost use Rattle.deliver_exports.specs.Packing.{pack_delivered};
 ghost use Rattle.deliver_exports.specs.Run.{RunExported};
 
@@ -14,70 +14,25 @@ use refusal::Refusal;
 use table::{Message, TableMut};
 
 // Delivers one message; answers how many rows took an offer.
-#[unsafe(no_mangle)]
-pub extern "C" fn bannogwy_deliver(
-    n: usize,
-    p: usize,
-    h: usize,
-    links: &[u16],
-    functions: &[u16],
-    cost: &mut [u32],
-    way: &mut [u16],
-    waiting: &mut [u32],
-    sender: usize,
-    receiver: usize,
-    destination: usize,
-    number: usize,
-) -> u64
+pub fn deliver(net: &Network, table: &mut TableMut, message: Message) -> u64
     ensures { (result ≡ pack_delivered (deliver_answer
-        (network_of n p h links.now functions.now) (table_of cost.old way.old waiting.old) sender receiver destination number))
-        × (table_of cost.new way.new waiting.new ≡ deliver_table
-        (network_of n p h links.now functions.now) (table_of cost.old way.old waiting.old) sender receiver destination number) }
+        (network net.now) (table_held table.old) message.sender message.receiver message.destination message.number))
+        × (table_held table.new ≡ deliver_table
+        (network net.now) (table_held table.old) message.sender message.receiver message.destination message.number)
+        × SameSlices table.old table.new }
 {
-    let net = Network {
-        n,
-        p,
-        h,
-        links,
-        functions,
-    };
-    let message = Message {
-        sender,
-        receiver,
-        destination,
-        number,
-    };
-    packed(deliver::deliver(&net, &mut TableMut { cost, way, waiting }, message))
+    packed(deliver::deliver(net, table, message))
 }
 
 // Delivers until quiet or until `limit` are done; the numbers of deliveries and of offers go into `answer`.
-#[unsafe(no_mangle)]
-pub extern "C" fn bannogwy_run(
-    n: usize,
-    p: usize,
-    h: usize,
-    links: &[u16],
-    functions: &[u16],
-    cost: &mut [u32],
-    way: &mut [u16],
-    waiting: &mut [u32],
-    limit: u32,
-    answer: &mut [u64],
-) -> u64
-    ensures { RunExported (network_of n p h links.now functions.now) limit (table_of cost.old way.old waiting.old) answer.old
-        result (table_of cost.new way.new waiting.new) answer.new }
+pub fn run(net: &Network, table: &mut TableMut, limit: u32, answer: &mut [u64]) -> u64
+    ensures { RunExported (network net.now) limit (table_held table.old) answer.old result (table_held table.new) answer.new
+        × SameSlices table.old table.new }
 {
     if answer.len() < 2 {
         return packed_refused(u32::from(Refusal::NoRoom));
     }
-    let net = Network {
-        n,
-        p,
-        h,
-        links,
-        functions,
-    };
-    let ran = run::run(&net, &mut TableMut { cost, way, waiting }, limit);
+    let ran = run::run(net, table, limit);
     answer[0] = u64::from(ran.done);
     answer[1] = ran.offers;
     packed_end(ran.refused.map_or(0, u32::from))
