@@ -23,7 +23,8 @@ module _ (net : Network) (t : Table) (Q U D N : ℕ) where
   unfolding deliver_refusal deliver_table step_table
   delivers s back g answer after w l own x =
       let e : deliver_refusal net t Q U D N ≡ message_refusal net t Q U D N = begun net t s w (message_refusal net t Q U D N) (refusal net t) in
-      let d = step_delivers net t w.network (sized_so net t s w) Q U D N s back g answer after w.stacks_are l own x in
+      let d = step_delivers net t w.network (sized_so net t s w) Q U D N s back g answer after w.stacks_are l
+      (ap (λ (y : Gateway). y.p) own) (ap (λ (y : Gateway). y.most) own) (λ low. own) x in
       (d.0 ∙ simp e, d.1 ∙ simp e)
 
   -- the network or the table is refused

@@ -98,7 +98,8 @@ module _ (net : Network) (t : Table) (x : Found) (found : first_in t.waiting ≡
 
     law : Law (stacks net)
     law w f own l x e =
-        let d = step_delivers net t w.network w.sized Q U D N (stacks net) back g answer after refl l own x in
+        let d = step_delivers net t w.network w.sized Q U D N (stacks net) back g answer after refl l
+        (ap (λ (y : Gateway). y.p) own) (ap (λ (y : Gateway). y.most) own) (λ low. own) x in
         turned w answer after flags' f d.0 d.1 e
 
     pub turned_step : (s : ℕ) → Law s

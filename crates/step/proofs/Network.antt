@@ -7,7 +7,7 @@ use mathlib.Core.List.{List, []}
 use mathlib.Core.Bool.{Bool, true, false}
 use lib.ListN.{length, get_or}
 use lib.Dec.{eqb}
-use borrow.Author.Tests.{le-leb, eq-eqb}
+use borrow.Author.Tests.{le-leb, eq-eqb, eqb-true}
 use Rattle.stacks.proofs.Tests.{sizes}
 use Rattle.functions.specs.Functions.{kind_of, from_of, to_of}
 use Rattle.network.specs.Network.{Network, stacks, link, refusal_of}
@@ -18,6 +18,7 @@ use Rattle.hear.specs.Handed.{gateway_seen}
 use Rattle.hear.specs.declared.Gateway.{Gateway as HandedGateway}
 use Rattle.hear.specs.Answers as hearing
 use Rattle.hear.proofs.Laws.{Alike, heard_same, taken_same}
+use Rattle.table.proofs.Deliveries.{goes}
 use Rattle.table.specs.Table.{Table, Sized, rows_at, gateway, message, cleared, delivered, offers_taken}
 use Rattle.table.specs.Answers.{message_refusal}
 use Rattle.std.specs.Prelude.{Result, Ok}
@@ -84,8 +85,21 @@ module _ (net : Network) (t : Table) (right : refusal_of net ≡ 0) (sized : Siz
           )
       go false q = (x.answers ∙ simp (same_refusal, q), x.table ∙ simp (same_refusal, q))
 
+  -- a message to no node is refused, whatever gateway it is handed to
+  elsewhere : (g : HandedGateway) (answer : Result ℕ Refusal) (after : Table) → g.p ≡ net.p → g.most ≡ stacks net
+      → eqb (message_refusal net t Q U D N) 0 ≡ false → Stepped net.n (gateway_seen g) (link net U Q) t Q U D N answer after
+      → (answer ≡ step_answer net t Q U D N) × (after ≡ step_table net t Q U D N)
+  unfolding table_after step_table
+  elsewhere g answer after p_is most_is q x = (x.answers ∙ simp (p_is, most_is, same_refusal, q), x.table ∙ simp (p_is, most_is, same_refusal, q))
+
   -- with s stacks, as `ready` counted them, and with the gateway and the cost of the link back as they were read
   pub step_delivers : (s back : ℕ) (g : HandedGateway) (answer : Result ℕ Refusal) (after : Table) → s ≡ stacks net → back ≡ link net U Q
-      → g ≡ gateway_at net s U → Stepped net.n (gateway_seen g) back t Q U D N answer after
+      → g.p ≡ net.p → g.most ≡ s → (U < net.n → g ≡ gateway_at net s U) → Stepped net.n (gateway_seen g) back t Q U D N answer after
       → (answer ≡ step_answer net t Q U D N) × (after ≡ step_table net t Q U D N)
-  step_delivers s back g answer after e l own x = same answer after (simp (own, e, l) at x)
+  step_delivers s back g answer after e l p_is most_is own x = go (eqb (message_refusal net t Q U D N) 0) refl
+    where
+      go : (b : Bool) → eqb (message_refusal net t Q U D N) 0 ≡ b → (answer ≡ step_answer net t Q U D N) × (after ≡ step_table net t Q U D N)
+      go true q =
+          let here = own (goes net t Q U D N (eqb-true (message_refusal net t Q U D N) 0 q)).receiver in
+          same answer after (simp (here, e, l) at x)
+      go false q = elsewhere g answer after p_is (most_is ∙ e) q (simp l at x)
