@@ -1,5 +1,5 @@
-// The calls that C links, one for each in include/bannogwy.h. Only a static library exports, and no crate can stand on one; so each call here has the
-// name and the clauses of a function of a library, and does no more than call it.
+// The calls that C links, one for each in include/bannogwy.h. Only a static library exports, and no crate can stand on one; so each call here only makes
+// structs of the numbers and slices of C, and calls a function of a library.
 #![tactic(auto)]
 
 mod deliver_calls;
