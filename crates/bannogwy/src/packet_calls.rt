@@ -7,6 +7,9 @@ ghost use Rattle.carry.specs.Carry.{carry_of};
 ghost use Rattle.packet_exports.specs.Packing.{pack_look};
 ghost use Rattle.packet_exports.specs.Four.{FourExported, ReadExported, carry_four};
 
+use network::Network;
+use table::Table;
+
 // The next hop of a packet, as the forwarding daemon asks for it.
 #[unsafe(no_mangle)]
 pub extern "C" fn bannogwy_lookup(
@@ -24,19 +27,15 @@ pub extern "C" fn bannogwy_lookup(
 ) -> u64
     ensures { result ≡ pack_look (lookup_of (network_of n p h links.now functions.now) (table_of cost.now way.now waiting.now) node destination stack.now) }
 {
-    packet_exports::bannogwy_lookup(
+    let net = Network {
         n,
         p,
         h,
         links,
         functions,
-        cost,
-        way,
-        waiting,
-        node,
-        destination,
-        stack,
-    )
+    };
+    let table = Table { cost, way, waiting };
+    packet_exports::lookup(&net, &table, node, destination, stack)
 }
 
 // How far a packet is carried: hops, cost spent, node and stack number reached go into answer.
@@ -60,21 +59,15 @@ pub extern "C" fn bannogwy_carry(
         (carry_four (carry_of (network_of n p h links.now functions.now) (table_of cost.now way.now waiting.now) node destination stack.now limit))
         answer.old result answer.new }
 {
-    packet_exports::bannogwy_carry(
+    let net = Network {
         n,
         p,
         h,
         links,
         functions,
-        cost,
-        way,
-        waiting,
-        node,
-        destination,
-        stack,
-        limit,
-        answer,
-    )
+    };
+    let table = Table { cost, way, waiting };
+    packet_exports::carry(&net, &table, node, destination, stack, limit, answer)
 }
 
 // The stack of headers of a packet, bottom to top, into the front of out; its numbers go into answer.
@@ -87,5 +80,5 @@ pub extern "C" fn bannogwy_read_stack(
 ) -> u64
     ensures { ReadExported h packet.now out.old answer.old result out.new answer.new }
 {
-    packet_exports::bannogwy_read_stack(h, packet, out, answer)
+    packet_exports::read_stack(h, packet, out, answer)
 }

@@ -1,9 +1,9 @@
--- `packet_exports::bannogwy_read_stack` meets its contract.
+-- `packet_exports::read_stack` meets its contract.
 use native.Mathlib.Omega.{arith}
 use mathlib.Core.Path.{ap, ◌∙◌}
 use Rattle.packing.specs.Packing.{pack_refused}
 use Rattle.packet_exports.proofs.Fours.{not_read}
-use Rattle.packet_exports.proofs.bannogwy_read_stack.Goals as goal
+use Rattle.packet_exports.proofs.read_stack.Goals as goal
 
 pub returns-then-room-lt4 : goal.returns-then-room-lt4
 returns-then-room-lt4 c =
