@@ -3,3 +3,4 @@ pub mod Lengths
 pub mod Rightness
 pub mod Agreeing
 pub mod Outcomes
+pub mod Listed

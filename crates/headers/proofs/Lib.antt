@@ -7,4 +7,5 @@ pub mod Follows
 pub mod Following
 pub mod Answering
 pub mod Examples
+pub mod Listed
 pub mod Kept

@@ -16,7 +16,8 @@ pub(crate) struct Chained {
     pub to: usize,
 }
 
-// The header that starts at s, which is number k from outside.
+// The header that starts at s, which is number k from outside. Inlined, since its answer would be handed over in memory, and read back slowly.
+#[inline(always)]
 fn judged(packet: &[u8], k: usize, s: usize, announced: usize, e: usize) -> Result<Header, Unread>
     ensures { result ≡ judged_of k s (header_of packet.now s announced e) }
 {

@@ -1,4 +1,4 @@
--- `named` and `refusal_number` take each other back.
+-- `named` takes `refusal_number` back, and `refusal_number` takes `named` back of a number that stands in the list.
 use Rattle.std.specs.Prelude.{ℕ, zero, suc, ◌≤◌, Bool, true, false, cond, ◌≡◌}
 use native.Mathlib.Omega.{arith}
 use mathlib.Core.Path.{refl}

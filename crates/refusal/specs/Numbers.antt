@@ -31,7 +31,7 @@ number_or_none None = 0
 number_or_none (Some refusal) = refusal_number refusal
 
 -- The refusal that has a number, so that a definition can say which number is given first. (No call is refused with a number that stands in no line:
--- proofs/Named.antt has the law that `refusal_number` takes `named` back.)
+-- `Listed` of proofs/Named.antt says it of a number, and laws named `.._listed` and `few_kept` of what the calls are refused with.)
 abbrev pub named : ℕ → Refusal
 named k =
     cond (eqb k 1) Refusal.Sizes (cond (eqb k 2) Refusal.Links (cond (eqb k 3) Refusal.Table (cond (eqb k 4) Refusal.Range

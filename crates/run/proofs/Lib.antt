@@ -5,3 +5,4 @@ pub mod Running
 pub mod Keeping
 pub mod Marks
 pub mod Turning
+pub mod Gateways

@@ -1,5 +1,5 @@
 -- One turn of a run, as a private function answers it; no public contract cites it.
-use Rattle.std.specs.Prelude.{ℕ, ◌+◌, ◌*◌, ◌≤◌, ◌≡◌, List, cond, get_or, set, ltb, Result, Ok, Err, Option, Some, None}
+use Rattle.std.specs.Prelude.{ℕ, ◌+◌, ◌*◌, ◌≤◌, ◌≡◌, List, cond, get_or, set, replicate, ltb, Result, Ok, Err, Option, Some, None}
 use Rattle.lists.specs.Lists.{tabulate}
 use Rattle.bits.specs.Bits.{with_one}
 use Rattle.words.specs.Words.{first_in}
@@ -25,6 +25,12 @@ pub record Countable (n s waits : ℕ) : Type 0 where
   pub nodes : 1 ≤ n
   pub some : 1 ≤ s
   pub low : s ≤ 16384
+
+-- the gateway that stands for a number that is no node: it has no neighbour and no function
+abbrev pub nobody : ℕ → ℕ → Gateway
+nobody p s =
+    let none = replicate 8 (replicate 8 0) in
+    record { p = p; most = s; neighbours = 0; convert = none; wrap = none; unwrap = none }
 
 -- the gateways are the nodes of the network, each as the one that hears
 abbrev pub AllEquipped : Network → ℕ → List Gateway → Type 0

@@ -1,24 +1,41 @@
 // The turns of a run, in a network and a table that `ready` found right.
-ghost use Rattle.std.specs.Prelude.{◌≡◌, true, ℕ, ◌≤◌};
+ghost use Rattle.std.specs.Prelude.{◌≡◌, true, ℕ, ◌≤◌, replicate};
 ghost use Rattle.bits.specs.Bits.{word_of};
 ghost use Rattle.network.specs.Handed.{network};
 ghost use Rattle.table.specs.Handed.{SameSlices, table_held};
 ghost use Rattle.table.specs.Run.{Runs, steps};
 ghost use Rattle.run.specs.Flags.{Flagged};
-ghost use Rattle.run.specs.Turns.{Prepared, AllEquipped, Turned};
+ghost use Rattle.run.specs.Turns.{Prepared, AllEquipped, Turned, nobody};
 
 use crate::search::search_flagged;
 use hear::Gateway;
 use network::Network;
 use refusal::Refusal;
-use std::array;
 use table::{Message, Ran, TableMut};
 
-// Every node as the gateway that hears, so that a run works them out once.
-fn all_gateways(net: &Network, stacks: usize) -> [Gateway; 32]
-    ensures { AllEquipped (network net.now) stacks result }
+// The gateway that stands for a number that is no node: it has no neighbour and no function.
+fn nobody(p: usize, most: usize) -> Gateway
+    ensures { result ≡ nobody p most }
 {
-    array::from_fn(|node| step::gateway_at(net, stacks, node))
+    Gateway {
+        p,
+        most,
+        neighbours: 0,
+        convert: [[0; 8]; 8],
+        wrap: [[0; 8]; 8],
+        unwrap: [[0; 8]; 8],
+    }
+}
+
+// Every node as the gateway that hears, so that a run works them out once. The caller lends the room, so that they are not copied from place to place.
+fn equip(net: &Network, stacks: usize, gateways: &mut [Gateway; 32])
+    requires few { net.now.n ≤ 32 }
+    requires empty { gateways.old ≡ replicate 32 (nobody net.now.p stacks) }
+    ensures { AllEquipped (network net.now) stacks gateways.new }
+{
+    for node in 0..net.n {
+        gateways[node] = step::gateway_at(net, stacks, node);
+    }
 }
 
 // First waiting and then deliver, once: how many rows took an offer, or None where no message waits. The flags say which blocks of rows may hold a
@@ -76,7 +93,8 @@ pub(crate) fn take_turns(net: &Network, stacks: usize, table: &mut TableMut, lim
     requires { Prepared (network net.now) stacks (table_held table.old) }
     ensures { Runs (steps (network net.now) limit (table_held table.old)) result (table_held table.new) × SameSlices table.old table.new }
 {
-    let gateways = all_gateways(net, stacks);
+    let mut gateways = [nobody(net.p, stacks); 32];
+    equip(net, stacks, &mut gateways);
     let mut flags = [all_flags(net.n); 32];
     let mut offers: u64 = 0;
     for done in 0..limit {

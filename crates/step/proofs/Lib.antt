@@ -3,3 +3,4 @@ pub mod Tests
 pub mod Tells
 pub mod Hearing
 pub mod Network
+pub mod Listed

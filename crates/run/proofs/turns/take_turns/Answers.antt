@@ -22,6 +22,9 @@ next c =
     keeps_on (network a.net.now) a.stacks a.limit (table_held a.table.now) l.done l.offers c.in-Ok-Some.taken (table_held l.table) (table_held x.new.table)
     l.flags x.new.flags x.result c.requires.network (omega arith) l.invariant.0 x.ensures.0 (c.in-Ok-Some.is ∙ ap Ok c.in-Ok-Some.field-0-is)
 
+pub equip-requires-clause-few : goal.equip-requires-clause-few
+equip-requires-clause-few c = (valid (network c.args.net.now) c.requires.network).few
+
 pub all_flags-flags-requires : goal.all_flags-flags-requires
 all_flags-flags-requires c = (valid (network c.args.net.now) c.requires.network).few
 
